@@ -1,0 +1,4 @@
+//! The parts of a member as a sheet has them: its codes, and its texts, each handed out as the part of the sheet that it is.
+pub mod codes;
+pub mod parts;
+pub mod piece;
