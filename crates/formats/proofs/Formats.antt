@@ -63,6 +63,10 @@ pub was-ok : {Y F G : Type 0} (as-fault : F → G) (r : Result Y F) (y : Y) → 
 was-ok as-fault (Ok x) y e = ap Ok (same-ok e)
 was-ok as-fault (Err f) y e = let z : _≡_ {A = ℕ} 0 1 = cc in absurd (omega arith)
 
+pub passed : {Y F : Type 0} (b : Bool) (f : F) (x y : Y) → cond b (Ok x) (Err f) ≡ Ok y → x ≡ y
+passed true f x y e = same-ok e
+passed false f x y e = let z : _≡_ {A = ℕ} 0 1 = cc in absurd (omega arith)
+
 pub not-refused : {Y F : Type 0} (b : Bool) (f : F) (x y : Y) → cond b (Err f) (Ok x) ≡ Ok y → (b ≡ false) × (x ≡ y)
 not-refused true f x y e = let z : _≡_ {A = ℕ} 0 1 = cc in absurd (omega arith)
 not-refused false f x y e = (refl, same-ok e)
@@ -70,7 +74,7 @@ not-refused false f x y e = (refl, same-ok e)
 module _ {s : List ℕ} {last i : ℕ} {may : ℕ → Type 0} where
   -- nothing more is read: what was read is all of what is described
   pub done : {Y D F : Type 0} {stop : Y → ℕ} {view : Y → D} {keeps known : D → Type 0} (y : Y) →
-      stop y ≡ i → (i ≤ last → may i) → keeps (view y) → known (view y) → ((d : D) → known d → view y ≡ d) →
+      stop y ≡ i → (i ≤ last → may i) → keeps (view y) → known (view y) → ((d : D) → keeps d → known d → view y ≡ d) →
       Reads s last i may {F = F} (Ok y) stop view (λ _. []) (λ d. keeps d × known d)
   done {Y} {D} {F} {stop} {view} {keeps} {known} y stops ends kept knows only = record {
     sound = λ small room z e.
@@ -79,22 +83,22 @@ module _ {s : List ℕ} {last i : ℕ} {may : ℕ → Type 0} where
         let here : Stands s i i may [] (keeps (view y) × known (view y)) =
         record { laid = laid-nil s i; ends = ends (room .left); kept = (kept, knows) } in
         subst P (same-ok e) (subst Q (sym stops) here);
-    complete = λ room d j k laid m. record { value = y; is = refl; stops = omega (arith, laid .size, stops); shows = only d (k .1) };
+    complete = λ room d j k laid m. record { value = y; is = refl; stops = omega (arith, laid .size, stops); shows = only d (k .0) (k .1) };
   }
 
   -- a part, and then others
   pub field : {X E Y D F : Type 0} {got : Result X F} {mid : X → ℕ} {viewX : X → E} {printX : E → List ℕ} {keepsX : E → Type 0}
       {next : X → Result Y F} {stop : Y → ℕ} {view : Y → D} {rest : D → List ℕ} {keeps known : D → Type 0}
-      (part : D → E) → ((d : D) → keeps d → keepsX (part d)) → ((n : ℕ) → may n → n ≤ last) →
+      (part : D → E) → ((d : D) → keeps d → known d → keepsX (part d)) → ((n : ℕ) → may n → n ≤ last) →
       Reads s last i (UpTo last) got mid viewX printX keepsX →
-      ((x : X) → keepsX (viewX x) → Room s last (mid x) → Reads s last (mid x) may (next x) stop view rest (λ d. keeps d × (known d × (part d ≡ viewX x)))) →
+      ((x : X) → got ≡ Ok x → keepsX (viewX x) → Room s last (mid x) → Reads s last (mid x) may (next x) stop view rest (λ d. keeps d × (known d × (part d ≡ viewX x)))) →
       Reads s last i may (then got next) stop view (λ d. printX (part d) ++ rest d) (λ d. keeps d × known d)
   field {got} {mid} {viewX} {printX} {keepsX} {next} {stop} {view} {rest} {keeps} {known} part holds below first others = record {
     sound = λ small room y e.
         let (x, is, after) = went got next y e in
         let one = first .sound small room x is in
         let on : Room s last (mid x) = record { inside = room .inside; left = one .ends } in
-        let two = others x (one .kept) on .sound small on y after in
+        let two = others x is (one .kept) on .sound small on y after in
         let same = two .kept .1 .1 in
         record {
           laid = subst (λ p. Laid s i (stop y) (printX p ++ rest (view y))) (sym same) (laid-append (one .laid) (two .laid));
@@ -103,10 +107,10 @@ module _ {s : List ℕ} {last i : ℕ} {may : ℕ → Type 0} where
         };
     complete = λ room d j k laid m.
         let (p, q) = laid-split (printX (part d)) (rest d) laid in
-        let one = first .complete room (part d) (i + length (printX (part d))) (holds d (k .0)) p (omega (arith, q .size, below j m)) in
+        let one = first .complete room (part d) (i + length (printX (part d))) (holds d (k .0) (k .1)) p (omega (arith, q .size, below j m)) in
         let on : Room s last (mid (one .value)) =
         record { inside = room .inside; left = omega (arith, one .stops, q .size, below j m) } in
-        let two = others (one .value) (subst keepsX (sym (one .shows)) (holds d (k .0))) on .complete on d j (k .0, (k .1, sym (one .shows)))
+        let two = others (one .value) (one .is) (subst keepsX (sym (one .shows)) (holds d (k .0) (k .1))) on .complete on d j (k .0, (k .1, sym (one .shows)))
         (subst (λ n. Laid s n j (rest d)) (sym (one .stops)) q) m in
         record {
           value = two .value;
@@ -119,16 +123,16 @@ module _ {s : List ℕ} {last i : ℕ} {may : ℕ → Type 0} where
   -- a part, after which no byte is read
   pub final : {X E Y D F : Type 0} {got : Result X F} {mid : X → ℕ} {viewX : X → E} {printX : E → List ℕ} {keepsX : E → Type 0}
       {next : X → Result Y F} {stop : Y → ℕ} {view : Y → D} {keeps known : D → Type 0}
-      (part : D → E) → ((d : D) → keeps d → keepsX (part d)) → ((n : ℕ) → may n → n ≤ last) →
+      (part : D → E) → ((d : D) → keeps d → known d → keepsX (part d)) → ((n : ℕ) → may n → n ≤ last) →
       Reads s last i may got mid viewX printX keepsX →
-      ((x : X) → keepsX (viewX x) → Room s last (mid x) → may (mid x) → Reads s last (mid x) may (next x) stop view (λ _. []) (λ d. keeps d × (known d × (part d ≡ viewX x)))) →
+      ((x : X) → got ≡ Ok x → keepsX (viewX x) → Room s last (mid x) → may (mid x) → Reads s last (mid x) may (next x) stop view (λ _. []) (λ d. keeps d × (known d × (part d ≡ viewX x)))) →
       Reads s last i may (then got next) stop view (λ d. printX (part d)) (λ d. keeps d × known d)
   final {got} {mid} {viewX} {printX} {keepsX} {next} {stop} {view} {keeps} {known} part holds below first others = record {
     sound = λ small room y e.
         let (x, is, after) = went got next y e in
         let one = first .sound small room x is in
         let on : Room s last (mid x) = record { inside = room .inside; left = below (mid x) (one .ends) } in
-        let two = others x (one .kept) on (one .ends) .sound small on y after in
+        let two = others x is (one .kept) on (one .ends) .sound small on y after in
         let same = two .kept .1 .1 in
         let both : Laid s i (stop y) (printX (viewX x) ++ []) = laid-append (one .laid) (two .laid) in
         let all : Laid s i (stop y) (printX (viewX x)) = subst (λ bs. Laid s i (stop y) bs) (append-nil (printX (viewX x))) both in
@@ -138,10 +142,10 @@ module _ {s : List ℕ} {last i : ℕ} {may : ℕ → Type 0} where
           kept = (two .kept .0, two .kept .1 .0);
         };
     complete = λ room d j k laid m.
-        let one = first .complete room (part d) j (holds d (k .0)) laid m in
+        let one = first .complete room (part d) j (holds d (k .0) (k .1)) laid m in
         let on : Room s last (mid (one .value)) =
         record { inside = room .inside; left = omega (arith, one .stops, below j m) } in
-        let two = others (one .value) (subst keepsX (sym (one .shows)) (holds d (k .0))) on (subst may (sym (one .stops)) m) .complete on d j (k .0, (k .1, sym (one .shows)))
+        let two = others (one .value) (one .is) (subst keepsX (sym (one .shows)) (holds d (k .0) (k .1))) on (subst may (sym (one .stops)) m) .complete on d j (k .0, (k .1, sym (one .shows)))
         (subst (λ n. Laid s n j []) (sym (one .stops)) (laid-nil s j)) m in
         record {
           value = two .value;
@@ -172,14 +176,16 @@ module _ {s : List ℕ} {last i : ℕ} {may : ℕ → Type 0} where
     complete = λ room d j k laid m. absurd (true≢false (passes d j k laid m));
   }
 
-  -- a check that answers nothing
-  pub check : {Y D F : Type 0} {result : Result Y F} {stop : Y → ℕ} {view : Y → D} {print : D → List ℕ} {keeps : D → Type 0}
-      (c : Result Unit F) → ((d : D) → keeps d → c ≡ Ok tt) → (c ≡ Ok tt → Reads s last i may result stop view print keeps) →
-      Reads s last i may (then c (λ _. result)) stop view print keeps
-  check (Ok u) passes then-reads = then-reads refl
-  check (Err f) passes then-reads = record {
+  -- something that what is described lets succeed, without a byte read
+  pub attempt : {X Y D F : Type 0} {next : X → Result Y F} {stop : Y → ℕ} {view : Y → D} {print : D → List ℕ} {keeps : D → Type 0}
+      (c : Result X F) → ((d : D) → keeps d → (x : X) × (c ≡ Ok x)) → ((x : X) → c ≡ Ok x → Reads s last i may (next x) stop view print keeps) →
+      Reads s last i may (then c next) stop view print keeps
+  attempt (Ok x) passes then-reads = then-reads x refl
+  attempt (Err f) passes then-reads = record {
     sound = λ small room y e. let z : _≡_ {A = ℕ} 0 1 = cc in absurd (omega arith);
-    complete = λ room d j k laid m. let e = passes d k in let z : _≡_ {A = ℕ} 0 1 = cc in absurd (omega arith);
+    complete = λ room d j k laid m.
+        let (x, e) = passes d k in
+        let z : _≡_ {A = ℕ} 0 1 = cc in absurd (omega arith);
   }
 
   -- nothing is known before the first part
@@ -288,17 +294,17 @@ closed {s} {last} {i} {got} {stop} {view} {print} {keeps} fault reads = record {
 -- a part, after which no byte is left
 pub closing : {s : List ℕ} {last i : ℕ} {X E Y D F : Type 0} {got : Result X F} {mid : X → ℕ} {viewX : X → E} {printX : E → List ℕ} {keepsX : E → Type 0}
     {next : X → Result Y F} {stop : Y → ℕ} {view : Y → D} {keeps known : D → Type 0} (fault : X → F)
-    (part : D → E) → ((d : D) → keeps d → keepsX (part d)) →
+    (part : D → E) → ((d : D) → keeps d → known d → keepsX (part d)) →
     Reads s last i (UpTo last) got mid viewX printX keepsX →
-    ((x : X) → keepsX (viewX x) → Room s last (mid x) → mid x ≡ last →
+    ((x : X) → got ≡ Ok x → keepsX (viewX x) → Room s last (mid x) → mid x ≡ last →
     Reads s last (mid x) (Just last) (next x) stop view (λ _. []) (λ d. keeps d × (known d × (part d ≡ viewX x)))) →
     Reads s last i (Just last) (then got (λ x. cond (ltb (mid x) last) (Err (fault x)) (next x))) stop view (λ d. printX (part d)) (λ d. keeps d × known d)
 closing {s} {last} {mid} {printX} fault part holds first others =
     said (λ d _. append-nil (printX (part d))) (λ d h. h) (λ d h. h)
     (field part holds (λ n h. omega arith) first
-    (λ x kept on. guard-not (ltb (mid x) last) (fault x)
+    (λ x is kept on. guard-not (ltb (mid x) last) (fault x)
     (λ d j k laid m. le-ltb (mid x) last (omega (arith, laid .size)))
-    (λ no-more. others x kept on (omega (arith, ltb-false (mid x) last no-more, on .left)))))
+    (λ no-more. others x is kept on (omega (arith, ltb-false (mid x) last no-more, on .left)))))
 
 -- a list of bytes is read from its start to its end
 pub room-all : (s : List ℕ) → Room s (length s) 0

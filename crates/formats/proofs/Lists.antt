@@ -34,7 +34,7 @@ module _ {X D F : Type 0} (s : List ℕ) (last : ℕ) (read : ℕ → Result (X 
     is : items read n have i ≡ Ok (have ++ new, j)
     shows : map view new ≡ ds
 
-  abbrev Each : Type 0
+  abbrev pub Each : Type 0
   Each = (i : ℕ) → Reads s last i (UpTo last) (read i) (λ y. y .1) (λ y. view (y .0)) print keeps
 
   items-sound : Each → Small s → (n i : ℕ) (have : List X) → Room s last i → (y : List X × ℕ) → items read n have i ≡ Ok y → ItemsStand i n have y
@@ -76,10 +76,10 @@ module _ {X D F : Type 0} (s : List ℕ) (last : ℕ) (read : ℕ → Result (X 
         shows = ap₂ (λ a l. a ∷ l) (one .shows) (two .shows);
       }
 
-  abbrev Few : ℕ → List D → Type 0
+  abbrev pub Few : ℕ → List D → Type 0
   Few most ds = (length ds ≤ most) × All keeps ds
 
-  items-reads : Each → (most n i : ℕ) → n ≤ most →
+  pub items-reads : Each → (most n i : ℕ) → n ≤ most →
       Reads s last i (UpTo last) (items read n [] i) (λ y. y .1) (λ y. map view (y .0)) (joined print)
       (λ ds. Few most ds × (Unit × (length ds ≡ n)))
   items-reads each most n i few = record {
@@ -100,8 +100,8 @@ module _ {X D F : Type 0} (s : List ℕ) (last : ℕ) (read : ℕ → Result (X 
       (λ y. y .1) (λ y. map view (y .0)) (listOf print) (Few most)
   list-reads each most i fault got-reads =
       whole
-      (field length (λ ds h. tt) (λ n h. h) got-reads
-      (λ n _ _. guard (leb n most) fault
+      (field length (λ ds h _. tt) (λ n h. h) got-reads
+      (λ n _ _ _. guard (leb n most) fault
       (λ ds j k laid m. le-leb n most (omega (arith, k .0 .0, k .1 .1)))
       (λ few. items-reads each most n (i + 1) (leb-true _ _ few))))
 

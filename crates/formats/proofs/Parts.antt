@@ -139,8 +139,8 @@ raw {Y} {F} {keeps} s last i n y stop view stops views inside holds = record {
 text-to : (s : List ℕ) (last i : ℕ) → Reads s last i (UpTo last) (textTo s i last) end (bytesAt s) text Short
 text-to s last i =
     whole
-    (field length (λ t h. h) (λ n h. h) (word-to s last i)
-    (λ n small room. guard (leb (i + 2 + n) last) (CutShort i)
+    (field length (λ t h _. h) (λ n h. h) (word-to s last i)
+    (λ n _ small room. guard (leb (i + 2 + n) last) (CutShort i)
     (λ t j k laid m. le-leb (i + 2 + n) last (omega (arith, laid .size, k .1 .1)))
     (λ inside. raw s last (i + 2) n (record { start = i + 2; length = n }) end (bytesAt s) refl refl (leb-true _ _ inside)
     (λ t size. omega arith))))
@@ -184,8 +184,8 @@ pub coded : {K Y D : Type 0} {s : List ℕ} (w : List ℕ) {last i : ℕ} {may :
     ((k : K) → Room s last j → Reads s last j may (next k) stop view rest (λ d. keeps d × (known d × (part d ≡ k)))) →
     Reads s last i may (then (byteAt w i) (λ a. then (of a) next)) stop view (λ d. code (part d) ∷ rest d) (λ d. keeps d × known d)
 coded {s} w {last} {i} {may} {next} {stop} {view} {rest} {keeps} {known} is j after of code codes part below others =
-    field (λ d. code (part d)) (λ d h. tt) below (byte s w last i j is after)
-    (λ a _ _. said (λ d _. refl) (λ d h. (h .0 .0, (h .1, h .0 .1))) (λ d h. ((h .0, h .1 .1), h .1 .0))
-    (field {keeps = λ d. keeps d × (code (part d) ≡ a)} {known = known} part (λ d h. h .1) below
+    field (λ d. code (part d)) (λ d h _. tt) below (byte s w last i j is after)
+    (λ a _ _ _. said (λ d _. refl) (λ d h. (h .0 .0, (h .1, h .0 .1))) (λ d h. ((h .0, h .1 .1), h .1 .0))
+    (field {keeps = λ d. keeps d × (code (part d) ≡ a)} {known = known} part (λ d h _. h .1) below
     (decoded s last j of code (codes .there) (codes .back) a)
-    (λ k is room. said (λ d _. refl) (λ d h. ((h .0, ap code (h .1 .1) ∙ is), h .1)) (λ d h. (h .0 .0, h .1)) (others k room))))
+    (λ k _ same room. said (λ d _. refl) (λ d h. ((h .0, ap code (h .1 .1) ∙ same), h .1)) (λ d h. (h .0 .0, h .1)) (others k room))))

@@ -7,7 +7,7 @@ use native.Mathlib.Omega.{arith}
 use lib.Dec.{leb, ltb}
 use lib.ListN.{length, take, drop, getD}
 use Rattle.std.specs.Holes.{between}
-use Rattle.std.proofs.shelf.Lists.{take-all, drop-all, length-take, getD-take}
+use Rattle.std.proofs.shelf.Lists.{take-all, drop-all, length-take, getD-take, take-take}
 use Rattle.std.proofs.shelf.Tests.{leb-true, leb-false, ltb-true}
 use Rattle.std.proofs.shelf.Parts.{between-is}
 use Rattle.std.specs.declared.result.Result.{Result}
@@ -16,7 +16,7 @@ use Rattle.formats.specs.declared.Place.{Place}
 use Rattle.formats.specs.declared.ReadFault.{ReadFault}
 use Rattle.formats.specs.declared.ReadFault.the-variants.{CutShort}
 use Rattle.formats.specs.Readers.{then}
-use Rattle.formats.specs.Reading.{byteAt, wordAt, textAt}
+use Rattle.formats.specs.Reading.{end, bytesAt, byteAt, wordAt, textAt}
 
 -- as many as there are, or all
 pub taken : (s : List ℕ) (n k : ℕ) → k ≡ min n (length s) → take k s ≡ take n s
@@ -84,3 +84,10 @@ pub text-window : (s w : List ℕ) (last i : ℕ) → w ≡ take last s → last
 text-window s w last i is h =
     ap₂ (λ r m. then r (λ n. cond (leb (i + 2 + n) m) (Ok (record { start = i + 2; length = n })) (Err (CutShort i))))
     (word-window s w last i is h) (sym (length-window s w last is h))
+
+-- the bytes at a place inside of the window
+pub bytes-window : (s w : List ℕ) (last : ℕ) (p : Place) → w ≡ take last s → end p ≤ last → bytesAt w p ≡ bytesAt s p
+bytes-window s w last p is h =
+    ap (λ l. bytesAt l p) is
+    ∙ (between-is (take last s) (p .start) (end p)
+    ∙ (ap (drop (p .start)) (take-take (end p) last s h) ∙ sym (between-is s (p .start) (end p))))

@@ -31,10 +31,11 @@ kindCode kind.Setter = 4
 kindCode kind.Constructor = 5
 kindCode kind.Other = 6
 
+abbrev pub allKinds : List Kind
+allKinds = kind.Field ∷ kind.Accessor ∷ kind.Method ∷ kind.Getter ∷ kind.Setter ∷ kind.Constructor ∷ kind.Other ∷ []
+
 abbrev pub kindOf : ℕ → ℕ → Result Kind ReadFault
-kindOf =
-    decoded kindCode
-    (kind.Field ∷ kind.Accessor ∷ kind.Method ∷ kind.Getter ∷ kind.Setter ∷ kind.Constructor ∷ kind.Other ∷ [])
+kindOf = decoded kindCode allKinds
 
 abbrev pub keyCode : KeyKind → ℕ
 keyCode key.Identifier = 0
@@ -42,8 +43,11 @@ keyCode key.Literal = 1
 keyCode key.ComputedIdentifier = 2
 keyCode key.Computed = 3
 
+abbrev pub allKeyKinds : List KeyKind
+allKeyKinds = key.Identifier ∷ key.Literal ∷ key.ComputedIdentifier ∷ key.Computed ∷ []
+
 abbrev pub keyKindOf : ℕ → ℕ → Result KeyKind ReadFault
-keyKindOf = decoded keyCode (key.Identifier ∷ key.Literal ∷ key.ComputedIdentifier ∷ key.Computed ∷ [])
+keyKindOf = decoded keyCode allKeyKinds
 
 abbrev pub shapeCode : Shape → ℕ
 shapeCode shape.Identifier = 0
@@ -51,15 +55,21 @@ shapeCode shape.Arrow = 1
 shapeCode shape.Function = 2
 shapeCode shape.Other = 3
 
+abbrev pub allShapes : List Shape
+allShapes = shape.Identifier ∷ shape.Arrow ∷ shape.Function ∷ shape.Other ∷ []
+
 abbrev pub shapeOf : ℕ → ℕ → Result Shape ReadFault
-shapeOf = decoded shapeCode (shape.Identifier ∷ shape.Arrow ∷ shape.Function ∷ shape.Other ∷ [])
+shapeOf = decoded shapeCode allShapes
 
 abbrev pub formCode : Form → ℕ
 formCode form.Other = 0
 formCode form.Plain = 1
 
+abbrev pub allForms : List Form
+allForms = form.Other ∷ form.Plain ∷ []
+
 abbrev pub formOf : ℕ → ℕ → Result Form ReadFault
-formOf = decoded formCode (form.Other ∷ form.Plain ∷ [])
+formOf = decoded formCode allForms
 
 -- whether the flag of that value is set
 abbrev pub flag : ℕ → ℕ → Bool

@@ -1,3 +1,4 @@
 pub mod Codes
+pub mod Described
 pub mod Items
 pub mod Parts

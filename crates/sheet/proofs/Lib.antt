@@ -1,1 +1,5 @@
 mod Answered
+mod Inside
+mod Layouts
+mod Ruled
+mod Sheets

@@ -1,7 +1,12 @@
+pub mod Claims
 pub mod Classes
+pub mod Described
 pub mod Fields
+pub mod Kept
+pub mod Layout
 pub mod Members
 pub mod Opening
 pub mod Refusals
 pub mod Rules
 pub mod Seen
+pub mod Shown

@@ -1,6 +1,6 @@
 //! Reads a whole sheet.
-ghost use Prim.Native.Nat.{_≤_};
 ghost use Rattle.formats.specs.Reading.{bytesOf};
+ghost use Rattle.sheet.specs.Claims.{Accepted-is-laid-out, Laid-out-is-read};
 ghost use Rattle.sheet.specs.Classes.{membersAt, classAt, sheetAt, seenMembers, seenSheet, Answers, Opened};
 use crate::class::Class;
 use crate::member::Member;
@@ -49,12 +49,23 @@ fn read_class(heap: Global, sheet: Sheet<'_>) -> Result<Class, Refusal>
     })
 }
 
-/// The class that a sheet describes. It is read in one pass, and memory is asked for once, for the members.
-pub fn read(heap: Global, bytes: &[u8]) -> Result<Class, Refusal>
+fn read_bytes(heap: Global, bytes: &[u8]) -> Result<Class, Refusal>
     ensures { λ r. ⌜ Answers (Opened (now (bytes .entry))) (seenSheet r) (sheetAt (now (bytes .entry))) ⌝ }
 {
     if bytes.len() > MOST_BYTES {
         return Err(Refusal::from(ReadFault::Spare { at: MOST_BYTES }));
     }
     read_class(heap, Sheet::first(bytes))
+}
+
+/// The class that a sheet describes. It is read in one pass, and memory is asked for once, for the members.
+///
+/// What is accepted is the layout of the class that is answered, and the layout of every class that keeps the limits and
+/// the rules is read as that class.
+pub fn read(heap: Global, bytes: &[u8]) -> Result<Class, Refusal>
+    ensures sound { λ r. ⌜ Accepted-is-laid-out (now (bytes .entry)) r ⌝ }
+    ensures complete { λ r. ⌜ Laid-out-is-read (now (bytes .entry)) r ⌝ }
+    ensures answer { λ r. ⌜ Answers (Opened (now (bytes .entry))) (seenSheet r) (sheetAt (now (bytes .entry))) ⌝ }
+{
+    read_bytes(heap, bytes)
 }

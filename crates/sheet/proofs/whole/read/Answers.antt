@@ -1,23 +1,16 @@
-use mathlib.Core.Path.{_≡_, ap, sym, subst, _∙_}
-use mathlib.Core.Bool.{cond}
-use Prim.Native.Nat.{_≤_}
+use Prim.Native.Nat.{_<_}
 use native.Mathlib.Omega.{arith}
-use lib.ListN.{length}
-use Rattle.std.proofs.shelf.Lists.{take-all}
-use Rattle.std.proofs.shelf.Tests.{le-ltb}
-use Rattle.std.specs.declared.result.Result.the-variants.{Ok, Err}
-use Rattle.formats.specs.declared.ReadFault.the-variants.{Spare}
-use Rattle.formats.specs.Reading.{bytesOf}
-use Rattle.sheet.specs.Refusals.{reading}
-use Rattle.sheet.specs.Classes.{Answers, Opened, classAt, sheetAt, seenSheet}
+use Rattle.std.proofs.shelf.Elements.{all-from-getD}
+use Rattle.sheet.specs.Classes.{Opened}
+use Rattle.sheet.proofs.Sheets.{accepted-is-laid-out, laid-out-is-read}
 use Rattle.sheet.proofs.whole.read.Needs as need
 
 pub returns : need.returns
 returns c =
     let s = c .args .bytes .now in
-    let short : length s ≤ 65535 = omega arith in
-    let r = seenSheet (c .read-class .result) in
-    let all : bytesOf (c .first .result) ≡ s = c .first .ensures ∙ take-all 65535 s short in
-    let same : classAt s ≡ sheetAt s = sym (ap (λ b. cond b (Err (reading (Spare 65535))) (classAt s)) (le-ltb 65535 (length s) short)) in
-    let here : Answers (Opened s) r (classAt s) = subst (λ w. Answers (Opened w) r (classAt w)) all (c .read-class .ensures) in
-    subst (λ e. Answers (Opened s) r e) same here
+    let small = all-from-getD (λ b. b < 256) s 0 (λ i h. omega (arith, c .typed .bytes i)) in
+    record {
+      sound = accepted-is-laid-out (Opened s) s (c .read-bytes .result) small (c .read-bytes .ensures);
+      complete = laid-out-is-read (Opened s) s (c .read-bytes .result) (c .read-bytes .ensures);
+      answer = c .read-bytes .ensures;
+    }
