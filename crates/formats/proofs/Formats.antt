@@ -210,41 +210,6 @@ module _ {s : List ℕ} {last i : ℕ} {may : ℕ → Type 0} where
         reads .complete room d j (from d k) (subst (λ bs. Laid s i j bs) (sym (same d (from d k))) laid) m;
   }
 
-  -- what is laid out depends on a part that is known
-  pub choice : {K Y D F : Type 0} {result : Result Y F} {stop : Y → ℕ} {view : Y → D} {keeps : D → Type 0}
-      (print : K → D → List ℕ) (part : D → K) (k : K) → ((d : D) → keeps d → part d ≡ k) →
-      Reads s last i may result stop view (print k) keeps → Reads s last i may result stop view (λ d. print (part d) d) keeps
-  choice print part k is reads = said (λ d h. ap (λ k. print k d) (sym (is d h))) (λ d h. h) (λ d h. h) reads
-
-  -- one case of several: what is read of the case's own description, handed on as the whole one
-  pub via : {X E Y D F : Type 0} {got : Result X F} {mid : X → ℕ} {viewX : X → E} {printX : E → List ℕ} {keepsX : E → Type 0}
-      {stop : Y → ℕ} {view : Y → D} {print : D → List ℕ} (give : X → Y) (case : E → D) →
-      ((x : X) → stop (give x) ≡ mid x) → ((x : X) → view (give x) ≡ case (viewX x)) → ((e : E) → print (case e) ≡ printX e) →
-      Reads s last i may got mid viewX printX keepsX →
-      Reads s last i may (then got (λ x. Ok (give x))) stop view print (λ d. (e : E) × (case e ≡ d) × keepsX e)
-  via {X} {E} {Y} {D} {got} {mid} {viewX} {printX} {keepsX} {stop} {view} {print} give case stops views prints reads = record {
-    sound = λ small room y e.
-        let (x, is, after) = went got (λ x. Ok (give x)) y e in
-        let one = reads .sound small room x is in
-        let P : Y → Type 0 = λ y. Stands s i (stop y) may (print (view y)) ((e : E) × (case e ≡ view y) × keepsX e) in
-        let bytes : printX (viewX x) ≡ print (view (give x)) = sym (ap print (views x) ∙ prints (viewX x)) in
-        let here : P (give x) = record {
-          laid = subst₂ (λ j bs. Laid s i j bs) (sym (stops x)) bytes (one .laid);
-          ends = subst may (sym (stops x)) (one .ends);
-          kept = (viewX x, sym (views x), one .kept);
-        } in
-        subst P (same-ok after) here;
-    complete = λ room d j k laid m.
-        let (e, same, kept) = k in
-        let one = reads .complete room e j kept (subst (λ bs. Laid s i j bs) (ap print (sym same) ∙ prints e) laid) m in
-        record {
-          value = give (one .value);
-          is = ap (λ r. then r (λ x. Ok (give x))) (one .is);
-          stops = stops (one .value) ∙ one .stops;
-          shows = views (one .value) ∙ (ap case (one .shows) ∙ same);
-        };
-  }
-
   -- a result that is the same where the sheet is long enough
   pub windowed : {Y D F : Type 0} {result result′ : Result Y F} {stop : Y → ℕ} {view : Y → D} {print : D → List ℕ} {keeps : D → Type 0} →
       (last ≤ length s → result ≡ result′) → Reads s last i may result stop view print keeps → Reads s last i may result′ stop view print keeps
@@ -266,31 +231,6 @@ module _ {s : List ℕ} {last i : ℕ} {may : ℕ → Type 0} where
         record { value = one .value; is = ap (faulted as-fault) (one .is); stops = one .stops; shows = one .shows };
   }
 
--- no byte is left
-pub closed : {s : List ℕ} {last i : ℕ} {Y D F : Type 0} {got : Result Y F} {stop : Y → ℕ} {view : Y → D} {print : D → List ℕ} {keeps : D → Type 0}
-    (fault : Y → F) → Reads s last i (UpTo last) got stop view print keeps →
-    Reads s last i (Just last) (then got (λ y. cond (ltb (stop y) last) (Err (fault y)) (Ok y))) stop view print keeps
-closed {s} {last} {i} {got} {stop} {view} {print} {keeps} fault reads = record {
-  sound = λ small room y e.
-      let (x, is, after) = went got (λ y. cond (ltb (stop y) last) (Err (fault y)) (Ok y)) y e in
-      let (no-more, same) = not-refused (ltb (stop x) last) (fault x) x y after in
-      let one = reads .sound small room x is in
-      let at-end = ltb-false (stop x) last no-more in
-      subst (λ z. Stands s i (stop z) (Just last) (print (view z)) (keeps (view z))) same
-      (record { laid = one .laid; ends = omega (arith, one .ends); kept = one .kept });
-  complete = λ room d j k laid m.
-      let one = reads .complete room d j k laid (omega arith) in
-      let x = one .value in
-      let no-more : ltb (stop x) last ≡ false = le-ltb (stop x) last (omega (arith, one .stops)) in
-      record {
-        value = x;
-        is = ap (λ r. then r (λ y. cond (ltb (stop y) last) (Err (fault y)) (Ok y))) (one .is)
-            ∙ ap (λ b. cond b (Err (fault x)) (Ok x)) no-more;
-        stops = one .stops;
-        shows = one .shows;
-      };
-}
-
 -- a part, after which no byte is left
 pub closing : {s : List ℕ} {last i : ℕ} {X E Y D F : Type 0} {got : Result X F} {mid : X → ℕ} {viewX : X → E} {printX : E → List ℕ} {keepsX : E → Type 0}
     {next : X → Result Y F} {stop : Y → ℕ} {view : Y → D} {keeps known : D → Type 0} (fault : X → F)
@@ -309,11 +249,3 @@ closing {s} {last} {mid} {printX} fault part holds first others =
 -- a list of bytes is read from its start to its end
 pub room-all : (s : List ℕ) → Room s (length s) 0
 room-all s = record { inside = omega arith; left = omega arith }
-
-pub room-in : (pre bs post : List ℕ) →
-    Room (pre ++ (bs ++ post)) (length (pre ++ (bs ++ post))) (length pre)
-    × (length pre + length bs ≤ length (pre ++ (bs ++ post)))
-room-in pre bs post =
-    let outer = length-append pre (bs ++ post) in
-    let inner = length-append bs post in
-    (record { inside = omega arith; left = omega arith }, omega arith)

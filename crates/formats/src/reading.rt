@@ -49,7 +49,7 @@ impl<'s> Sheet<'s> {
     pub fn byte(self, at: usize) -> Result<u8, ReadFault>
         ensures { λ r. ⌜ r ≡ byteAt (bytesOf (self .entry)) at ⌝ }
     {
-        if at < self.bytes.len() {
+        if at < self.len() {
             Ok(self.bytes[at])
         } else {
             Err(ReadFault::CutShort { at })
@@ -60,7 +60,7 @@ impl<'s> Sheet<'s> {
     pub fn text(self, at: usize) -> Result<Place, ReadFault>
         ensures { λ r. ⌜ r ≡ textAt (bytesOf (self .entry)) at ⌝ }
     {
-        let all = self.bytes.len();
+        let all = self.len();
         if all < 2 || at > all - 2 {
             return Err(ReadFault::CutShort { at });
         }

@@ -116,8 +116,14 @@ flagged-bits : (f : Flagged) →
     (bit (f .0 .«is_async») 1) (bit (f .0 .«is_generator») 1) (bit (f .0 .«is_declared») 1)
 flagged-bits f =
     bits (flaggedCode f) _ _ _ _ _ _
-    (omega (arith, bit-times (f .0 .«is_private») 2, bit-times (f .1) 4, bit-times (f .0 .«is_async») 8,
-    bit-times (f .0 .«is_generator») 16, bit-times (f .0 .«is_declared») 32))
+    (omega (
+      arith,
+      bit-times (f .0 .«is_private») 2,
+      bit-times (f .1) 4,
+      bit-times (f .0 .«is_async») 8,
+      bit-times (f .0 .«is_generator») 16,
+      bit-times (f .0 .«is_declared») 32,
+    ))
     (bit-small (f .0 .«is_static»)) (bit-small (f .0 .«is_private»)) (bit-small (f .1))
     (bit-small (f .0 .«is_async»)) (bit-small (f .0 .«is_generator»)) (bit-small (f .0 .«is_declared»))
 
@@ -175,8 +181,15 @@ bits-sum a h =
         bit (eqb (q0 % 2) 1) 1 + (bit (eqb (q1 % 2) 1) 2 + (bit (eqb (q2 % 2) 1) 4
         + (bit (eqb (q3 % 2) 1) 8 + (bit (eqb (q4 % 2) 1) 16 + bit (eqb (q5 % 2) 1) 32)))) ≡ a
     sum a q0 q1 q2 q3 q4 q5 w e0 e1 e2 e3 e4 e5 =
-        omega (arith, set-bit (q0 % 2) 1 (omega arith), set-bit (q1 % 2) 2 (omega arith), set-bit (q2 % 2) 4 (omega arith),
-        set-bit (q3 % 2) 8 (omega arith), set-bit (q4 % 2) 16 (omega arith), set-bit (q5 % 2) 32 (omega arith))
+        omega (
+          arith,
+          set-bit (q0 % 2) 1 (omega arith),
+          set-bit (q1 % 2) 2 (omega arith),
+          set-bit (q2 % 2) 4 (omega arith),
+          set-bit (q3 % 2) 8 (omega arith),
+          set-bit (q4 % 2) 16 (omega arith),
+          set-bit (q5 % 2) 32 (omega arith),
+        )
 
 flags-back : (at a : ℕ) (f : Flagged) → flagsOf a at ≡ Ok f → flaggedCode f ≡ a
 flags-back at a f e = by (ltb a 64) refl e

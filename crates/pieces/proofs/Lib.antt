@@ -1,2 +1,4 @@
+pub mod Inside
 pub mod Inverses
+pub mod Layouts
 pub mod Texts

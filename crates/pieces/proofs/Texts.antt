@@ -20,7 +20,10 @@ use Rattle.formats.proofs.Lists.{list-reads}
 use Rattle.formats.proofs.Windows.{bytes-window}
 use Rattle.lists.specs.Listed.{counted}
 use Rattle.pieces.specs.Codes.{shapeOf, shapeCode, formOf, formCode}
-use Rattle.pieces.specs.Described.{DecoratorText, ParameterText, decoratorBytes, parameterBytes, KeptText, KeptDecorator, KeptParameter, shownDecorator, shownParameter}
+use Rattle.pieces.specs.Described.{DecoratorText, ParameterText}
+use Rattle.pieces.specs.Kept.{KeptText, KeptDecorator, KeptParameter}
+use Rattle.pieces.specs.Layout.{decoratorBytes, parameterBytes}
+use Rattle.pieces.specs.Shown.{shownDecorator, shownParameter}
 use Rattle.pieces.specs.Items.{decoratorAt, parameterAt}
 use Rattle.pieces.specs.Parts.{Part, decorator, parameter, placeOf, bytesIn, named, checked, pieceAt, namesShape, namesForm}
 use Rattle.pieces.proofs.Inverses.{shapes, forms}

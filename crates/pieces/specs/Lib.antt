@@ -1,4 +1,9 @@
+pub mod Bodies
 pub mod Codes
 pub mod Described
+pub mod Fields
 pub mod Items
+pub mod Kept
+pub mod Layout
 pub mod Parts
+pub mod Shown

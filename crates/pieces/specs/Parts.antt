@@ -1,7 +1,8 @@
 -- The parts of a sheet, each with its bytes and their place, and which of them have to be names.
 use mathlib.Core.List.{List}
-use mathlib.Core.Bool.{Bool, true, false, cond, _||_, not}
+use mathlib.Core.Bool.{Bool, false, cond, _&&_, _||_, not}
 use Prim.Native.Nat.{ℕ}
+use lib.Dec.{eqb}
 use Rattle.std.specs.declared.result.Result.{Result}
 use Rattle.std.specs.declared.result.Result.the-variants.{Ok, Err}
 use Rattle.formats.specs.declared.Place.{Place}
@@ -18,6 +19,8 @@ use Rattle.pieces.specs.declared.codes.Shape.{Shape}
 use Rattle.pieces.specs.declared.codes.Shape.the-variants as shape
 use Rattle.pieces.specs.declared.codes.Form.{Form}
 use Rattle.pieces.specs.declared.codes.Form.the-variants as form
+use Rattle.pieces.specs.Bodies.{isKind}
+use Rattle.pieces.specs.Codes.{keyCode, shapeCode, formCode}
 use Rattle.pieces.specs.declared.piece.Piece.{Piece}
 use Rattle.pieces.specs.declared.piece.Piece.the-variants.{Key, Decorator, Parameter, Body}
 
@@ -46,32 +49,17 @@ bytesIn (decorator shape bytes place) = bytes
 bytesIn (parameter form bytes place) = bytes
 bytesIn (body bytes place) = bytes
 
--- a key that is an identifier or a computed one
-abbrev pub isIdentifier : KeyKind → Bool
-isIdentifier keyed.Identifier = true
-isIdentifier keyed.Literal = false
-isIdentifier keyed.ComputedIdentifier = true
-isIdentifier keyed.Computed = false
-
--- constructors and others have no key to be named by
+-- identifiers, computed or not, are names; but constructors and others have no key to be named by
 abbrev pub namesKey : Kind → KeyKind → Bool
-namesKey kind.Field k = isIdentifier k
-namesKey kind.Accessor k = isIdentifier k
-namesKey kind.Method k = isIdentifier k
-namesKey kind.Getter k = isIdentifier k
-namesKey kind.Setter k = isIdentifier k
-namesKey kind.Constructor k = false
-namesKey kind.Other k = false
+namesKey of k =
+    not (isKind of kind.Constructor || isKind of kind.Other)
+    && (eqb (keyCode k) (keyCode keyed.Identifier) || eqb (keyCode k) (keyCode keyed.ComputedIdentifier))
 
 abbrev pub namesShape : Shape → Bool
-namesShape shape.Identifier = true
-namesShape shape.Arrow = false
-namesShape shape.Function = false
-namesShape shape.Other = false
+namesShape k = eqb (shapeCode k) (shapeCode shape.Identifier)
 
 abbrev pub namesForm : Form → Bool
-namesForm form.Other = false
-namesForm form.Plain = true
+namesForm k = eqb (formCode k) (formCode form.Plain)
 
 -- whether the part has to be a name
 abbrev pub named : Part → Bool

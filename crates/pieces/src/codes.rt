@@ -56,7 +56,7 @@ pub struct Flags {
 
 impl Kind {
     /// The kind of the code that stands at `at`.
-    pub fn of(code: u8, at: usize) -> Result<Kind, ReadFault>
+    pub(crate) fn of(code: u8, at: usize) -> Result<Kind, ReadFault>
         ensures { λ r. ⌜ r ≡ kindOf code at ⌝ }
     {
         match code {
@@ -74,7 +74,7 @@ impl Kind {
 
 impl KeyKind {
     /// The key kind of the code that stands at `at`.
-    pub fn of(code: u8, at: usize) -> Result<KeyKind, ReadFault>
+    pub(crate) fn of(code: u8, at: usize) -> Result<KeyKind, ReadFault>
         ensures { λ r. ⌜ r ≡ keyKindOf code at ⌝ }
     {
         match code {
@@ -89,7 +89,7 @@ impl KeyKind {
 
 impl Shape {
     /// The shape of the code that stands at `at`.
-    pub fn of(code: u8, at: usize) -> Result<Shape, ReadFault>
+    pub(crate) fn of(code: u8, at: usize) -> Result<Shape, ReadFault>
         ensures { λ r. ⌜ r ≡ shapeOf code at ⌝ }
     {
         match code {
@@ -104,7 +104,7 @@ impl Shape {
 
 impl Form {
     /// The form of the code that stands at `at`.
-    pub fn of(code: u8, at: usize) -> Result<Form, ReadFault>
+    pub(crate) fn of(code: u8, at: usize) -> Result<Form, ReadFault>
         ensures { λ r. ⌜ r ≡ formOf code at ⌝ }
     {
         match code {
@@ -117,7 +117,7 @@ impl Form {
 
 impl Flags {
     /// The flags of the byte that stands at `at`, and whether the value or body is there.
-    pub fn of(code: u8, at: usize) -> Result<(Flags, bool), ReadFault>
+    pub(crate) fn of(code: u8, at: usize) -> Result<(Flags, bool), ReadFault>
         ensures { λ r. ⌜ r ≡ flagsOf code at ⌝ }
     {
         if code >= 64 {

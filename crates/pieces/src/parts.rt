@@ -1,4 +1,4 @@
-//! A key, a decorator and a parameter: what each is, and the place of its text.
+//! A key, a decorator, a parameter and a body: what each is, and the place of its text.
 ghost use mathlib.Core.Path.{_≡_};
 ghost use Rattle.pieces.specs.Items.{decoratorAt, parameterAt};
 use crate::codes::Form;
@@ -29,6 +29,14 @@ pub struct Parameter {
     pub text: Place,
 }
 
+/// The value of a field or an accessor, the body of a function, the text of any other member; or a constructor's two texts.
+#[derive(Clone, Copy)]
+pub enum Body {
+    Text(Place),
+    /// What stands up to and with the super call, and what follows it.
+    Constructor { head: Place, tail: Place },
+}
+
 pub impl Item for Decorator as DecoratorItem {
     ghost reads = { decoratorAt };
 
@@ -42,7 +50,10 @@ pub impl Item for Decorator as DecoratorItem {
     fn filler() -> Decorator {
         Decorator {
             shape: Shape::Other,
-            text: Place { start: 0, length: 0 },
+            text: Place {
+                start: 0,
+                length: 0,
+            },
         }
     }
 }
@@ -60,7 +71,10 @@ pub impl Item for Parameter as ParameterItem {
     fn filler() -> Parameter {
         Parameter {
             form: Form::Other,
-            text: Place { start: 0, length: 0 },
+            text: Place {
+                start: 0,
+                length: 0,
+            },
         }
     }
 }

@@ -49,7 +49,7 @@ fn names_key(of: Kind, kind: KeyKind) -> bool
 
 impl<'s> Piece<'s> {
     /// Where the piece lies in its sheet.
-    pub fn place(self) -> Place
+    pub(crate) fn place(self) -> Place
         ensures { λ r. ⌜ r ≡ placeOf (part (self .entry)) ⌝ }
     {
         match self {
@@ -61,13 +61,26 @@ impl<'s> Piece<'s> {
     }
 
     /// The piece itself, whose length stands at `at`, unless it has to be a name and is none.
-    pub fn checked(self, at: usize) -> Result<Piece<'s>, ReadFault>
+    pub(crate) fn checked(self, at: usize) -> Result<Piece<'s>, ReadFault>
         ensures { λ r. ⌜ shown r ≡ checked (part (self .entry)) at ⌝ }
     {
         let fine = match self {
-            Piece::Key { of, kind, bytes, .. } => !names_key(of, kind) || is_name(bytes),
-            Piece::Decorator { shape: Shape::Identifier, bytes, .. } => is_name(bytes),
-            Piece::Parameter { form: Form::Plain, bytes, .. } => is_name(bytes),
+            Piece::Key {
+                of,
+                kind,
+                bytes,
+                ..
+            } => !names_key(of, kind) || is_name(bytes),
+            Piece::Decorator {
+                shape: Shape::Identifier,
+                bytes,
+                ..
+            } => is_name(bytes),
+            Piece::Parameter {
+                form: Form::Plain,
+                bytes,
+                ..
+            } => is_name(bytes),
             _ => true,
         };
         if fine {
@@ -79,7 +92,7 @@ impl<'s> Piece<'s> {
 }
 
 /// The key whose length stands at `at`, of a member of the kind `of`.
-pub fn key_at<'s>(
+pub(crate) fn key_at<'s>(
     sheet: Sheet<'s>,
     of: Kind,
     kind: KeyKind,
@@ -89,36 +102,49 @@ pub fn key_at<'s>(
 {
     let place = sheet.text(at)?;
     let bytes = sheet.part(place);
-    let piece = Piece::Key { of, kind, bytes, place };
-    piece.checked(at)
+    Piece::Key {
+        of,
+        kind,
+        bytes,
+        place,
+    }.checked(at)
 }
 
 /// The decorator whose length stands at `at`.
-pub fn decorator_at<'s>(sheet: Sheet<'s>, shape: Shape, at: usize) -> Result<Piece<'s>, ReadFault>
+pub(crate) fn decorator_at<'s>(
+    sheet: Sheet<'s>,
+    shape: Shape,
+    at: usize,
+) -> Result<Piece<'s>, ReadFault>
     ensures { λ r. ⌜ shown r ≡ pieceAt (bytesOf (sheet .entry)) (decorator shape) at ⌝ }
 {
     let place = sheet.text(at)?;
     let bytes = sheet.part(place);
-    let piece = Piece::Decorator { shape, bytes, place };
-    piece.checked(at)
+    Piece::Decorator {
+        shape,
+        bytes,
+        place,
+    }.checked(at)
 }
 
 /// The parameter whose length stands at `at`.
-pub fn parameter_at<'s>(sheet: Sheet<'s>, form: Form, at: usize) -> Result<Piece<'s>, ReadFault>
+pub(crate) fn parameter_at<'s>(
+    sheet: Sheet<'s>,
+    form: Form,
+    at: usize,
+) -> Result<Piece<'s>, ReadFault>
     ensures { λ r. ⌜ shown r ≡ pieceAt (bytesOf (sheet .entry)) (parameter form) at ⌝ }
 {
     let place = sheet.text(at)?;
     let bytes = sheet.part(place);
-    let piece = Piece::Parameter { form, bytes, place };
-    piece.checked(at)
+    Piece::Parameter { form, bytes, place }.checked(at)
 }
 
 /// The value or body, or the head or tail of a constructor, whose length stands at `at`.
-pub fn body_at<'s>(sheet: Sheet<'s>, at: usize) -> Result<Piece<'s>, ReadFault>
+pub(crate) fn body_at<'s>(sheet: Sheet<'s>, at: usize) -> Result<Piece<'s>, ReadFault>
     ensures { λ r. ⌜ shown r ≡ pieceAt (bytesOf (sheet .entry)) body at ⌝ }
 {
     let place = sheet.text(at)?;
     let bytes = sheet.part(place);
-    let piece = Piece::Body { bytes, place };
-    piece.checked(at)
+    Piece::Body { bytes, place }.checked(at)
 }

@@ -4,7 +4,7 @@ use Rattle.std.specs.declared.option.Option.{Option}
 use Rattle.std.specs.declared.option.Option.the-variants.{Some, None}
 use Rattle.std.specs.declared.result.Result.{Result}
 use Rattle.std.specs.declared.result.Result.the-variants.{Ok, Err}
-use Rattle.sheet.specs.declared.refusal.Numbered.{Numbered}
+use Rattle.refusals.specs.declared.Numbered.{Numbered}
 use Rattle.sheet.specs.Classes.{Answers}
 
 -- the answer that is expected

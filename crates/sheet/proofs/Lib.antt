@@ -1,5 +1,3 @@
 mod Answered
-mod Inside
-mod Layouts
 mod Ruled
 mod Sheets

@@ -21,19 +21,21 @@ use Rattle.formats.specs.Reading.{end, bytesAt}
 use Rattle.formats.proofs.Formats.{went, same-ok}
 use Rattle.pieces.specs.declared.codes.Kind.{Kind}
 use Rattle.pieces.specs.declared.parts.Parameter.{Parameter}
-use Rattle.pieces.specs.Described.{ParameterText, shownDecorator, shownParameter}
-use Rattle.sheet.specs.declared.parts.Body.{Body}
-use Rattle.sheet.specs.declared.parts.Body.the-variants.{Text, Constructor}
+use Rattle.pieces.specs.Bodies.{isConstructor}
+use Rattle.pieces.specs.Described.{ParameterText, BodyText, oneText, headAndTail, MemberText}
+use Rattle.pieces.specs.Fields.{Fields}
+use Rattle.pieces.specs.Kept.{KeptBody, KeptFields}
+use Rattle.pieces.specs.Shown.{shownDecorator, shownParameter, shownBody, shownFields}
+use Rattle.pieces.proofs.Inside.{BodyInside}
+use Rattle.pieces.specs.declared.parts.Body.{Body}
+use Rattle.pieces.specs.declared.parts.Body.the-variants.{Text, Constructor}
 use Rattle.sheet.specs.declared.refusal.MemberFault.{MemberFault}
 use Rattle.sheet.specs.declared.refusal.MemberFault.the-variants.{BrokenRule, SetterParameter}
-use Rattle.sheet.specs.Described.{BodyText, oneText, headAndTail, MemberText}
-use Rattle.sheet.specs.Fields.{Fields}
-use Rattle.sheet.specs.Kept.{KeptBody, KeptFields, KeptRules, Blank, outlined}
+use Rattle.sheet.specs.Kept.{KeptRules, Blank, outlined}
 use Rattle.sheet.specs.Members.{isBlank, bodyOf, ruled, memberOf}
-use Rattle.sheet.specs.Rules.{Outline, isConstructor, beginsPlain, lawful, settable}
+use Rattle.sheet.specs.Rules.{Outline, beginsPlain, lawful, settable}
 use Rattle.sheet.specs.Seen.{Seen, outline}
-use Rattle.sheet.specs.Shown.{shownBody, shownOption, shownFields, shownMember}
-use Rattle.sheet.proofs.Inside.{BodyInside}
+use Rattle.sheet.specs.Shown.{shownOption, shownMember}
 
 length-bytes : (s : List ℕ) (p : Place) → end p ≤ length s → length (bytesAt s p) ≡ p .length
 length-bytes s p h = omega (arith, length-between s (p .start) (end p) h)
@@ -140,7 +142,7 @@ member-there s f at inside inside′ kept =
     let same = outline-shown s f o inside there in (
       seenFrom f o,
       ap (λ r. then r (λ body. ruled (seenFrom f body) at)) is
-      ∙ ruled-there (seenFrom f o) at (ap lawful same ∙ kept .rules) (ap settable same ∙ kept .setter),
+          ∙ ruled-there (seenFrom f o) at (ap lawful same ∙ kept .rules) (ap settable same ∙ kept .setter),
     )
 
 -- and fields that make a member describe it
@@ -158,15 +160,15 @@ member-back s f at m inside kept e =
         setter = sym (ap settable same) ∙ setter;
       },
       ap (shownMember s) (sym made)
-      ∙ (λ ι. record {
-        head = record {
-          kind = f .head .kind;
-          flags = f .head .flags;
-          present = bodied .is ι;
-          key = record { kind = f .head .key .kind; text = bytesAt s (f .head .key .text) };
-        };
-        decorators = map (shownDecorator s) (f .decorators);
-        parameters = map (shownParameter s) (f .parameters);
-        body = bodied .shows ι;
-      }),
+          ∙ (λ ι. record {
+            head = record {
+              kind = f .head .kind;
+              flags = f .head .flags;
+              present = bodied .is ι;
+              key = record { kind = f .head .key .kind; text = bytesAt s (f .head .key .text) };
+            };
+            decorators = map (shownDecorator s) (f .decorators);
+            parameters = map (shownParameter s) (f .parameters);
+            body = bodied .shows ι;
+          }),
     )

@@ -24,22 +24,22 @@ use Rattle.formats.proofs.Formats.{Small, Room, Reads, UpTo, Just, same-ok, not
 use Rattle.formats.proofs.Laid.{Laid, laid-all, all-laid}
 use Rattle.formats.proofs.Lists.{items-reads, block}
 use Rattle.formats.proofs.Parts.{byte, text-reads, text-start}
+use Rattle.pieces.specs.Fields.{fieldsAt}
+use Rattle.pieces.proofs.Inside.{inside-more, fields-inside}
+use Rattle.pieces.proofs.Layouts.{fields-reads}
 use Rattle.sheet.specs.declared.class.Class.{Class}
 use Rattle.sheet.specs.declared.opening.Opening.{Opening}
-use Rattle.sheet.specs.declared.refusal.Numbered.{Numbered}
+use Rattle.refusals.specs.declared.Numbered.{Numbered}
 use Rattle.sheet.specs.declared.refusal.Refusal.{Refusal}
 use Rattle.sheet.specs.Claims.{Accepted-is-laid-out, Answered-as, Laid-out-is-read}
 use Rattle.sheet.specs.Classes.{SeenClass, classAt, sheetAt, seenClass, seenSheet, Answers}
-use Rattle.sheet.specs.Described.{MemberText, ClassText}
-use Rattle.sheet.specs.Fields.{fieldsAt}
+use Rattle.sheet.specs.Described.{ClassText}
 use Rattle.sheet.specs.Kept.{KeptRules, KeptMember, KeptParts, KeptClass}
-use Rattle.sheet.specs.Layout.{restBytes, memberBytes, classBytes}
+use Rattle.sheet.specs.Layout.{memberBytes, classBytes}
 use Rattle.sheet.specs.Members.{memberOf, memberAt}
 use Rattle.sheet.specs.Opening.{openingAt, superclassOf}
 use Rattle.sheet.specs.Refusals.{refusalOf, reading, members}
-use Rattle.sheet.specs.Shown.{shownFields, shownMember, shownSuperclass, shownClass}
-use Rattle.sheet.proofs.Inside.{inside-more, fields-inside}
-use Rattle.sheet.proofs.Layouts.{fields-reads}
+use Rattle.sheet.specs.Shown.{shownMember, shownSuperclass, shownClass}
 use Rattle.sheet.proofs.Ruled.{no-bytes, member-there, member-back}
 
 all-of : (s : List ℕ) → s ≡ take (length s) s

@@ -18,7 +18,7 @@ use Rattle.formats.specs.declared.ReadFault.the-variants.{Spare}
 use Rattle.formats.specs.Readers.{then, items, faulted}
 use Rattle.sheet.specs.declared.class.Class.{Class}
 use Rattle.sheet.specs.declared.member.Member.{Member}
-use Rattle.sheet.specs.declared.refusal.Numbered.{Numbered}
+use Rattle.refusals.specs.declared.Numbered.{Numbered}
 use Rattle.sheet.specs.declared.refusal.Refusal.{Refusal}
 use Rattle.sheet.specs.Refusals.{refusalOf, reading}
 use Rattle.sheet.specs.Seen.{Seen}

@@ -1,33 +1,17 @@
 -- The limits and rules that everything in a sheet keeps.
 use mathlib.Core.Path.{_≡_}
-use mathlib.Core.List.{List}
-use mathlib.Core.Bool.{Bool, true, false}
+use mathlib.Core.Bool.{true, false}
 use Prim.Native.Nat.{ℕ, _≤_}
 use lib.ListN.{length}
 use Rattle.std.specs.shelf.Lists.{All}
 use Rattle.formats.specs.Bytes.{Short}
 use Rattle.formats.specs.Names.{isName}
-use Rattle.pieces.specs.Described.{KeptText, KeptDecorator, KeptParameter}
-use Rattle.pieces.specs.Parts.{namesKey}
-use Rattle.sheet.specs.Described.{HeadText, BodyText, oneText, headAndTail, MemberText, ClassText}
-use Rattle.sheet.specs.Layout.{restBytes, classBytes}
-use Rattle.sheet.specs.Rules.{Outline, isConstructor, beginsPlain, lawful, settable}
-
-abbrev pub KeptHead : HeadText → Type 0
-KeptHead h = KeptText (namesKey (h .kind) (h .key .kind)) (h .key .text)
-
--- of a constructor, or of another member
-abbrev pub KeptBody : Bool → BodyText → Type 0
-KeptBody constructor (oneText t) = (constructor ≡ false) × Short t
-KeptBody constructor (headAndTail head tail) = (constructor ≡ true) × Short head × Short tail
-
-pub record KeptFields (m : MemberText) : Type 0 where
-  pub head : KeptHead (m .head)
-  pub few-decorators : length (m .decorators) ≤ 8
-  pub decorators : All KeptDecorator (m .decorators)
-  pub few-parameters : length (m .parameters) ≤ 16
-  pub parameters : All KeptParameter (m .parameters)
-  pub body : KeptBody (isConstructor (m .head .kind)) (m .body)
+use Rattle.pieces.specs.Described.{BodyText, oneText, headAndTail, MemberText}
+use Rattle.pieces.specs.Kept.{KeptFields}
+use Rattle.pieces.specs.Layout.{restBytes}
+use Rattle.sheet.specs.Described.{ClassText}
+use Rattle.sheet.specs.Layout.{classBytes}
+use Rattle.sheet.specs.Rules.{Outline, beginsPlain, lawful, settable}
 
 -- what the rules look at
 abbrev pub outlined : MemberText → Outline

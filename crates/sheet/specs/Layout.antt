@@ -2,22 +2,9 @@
 use mathlib.Core.List.{List, _∷_, _++_}
 use Prim.Native.Nat.{ℕ}
 use Rattle.formats.specs.Bytes.{text, listOf}
-use Rattle.pieces.specs.Codes.{kindCode, flagsCode, keyCode}
-use Rattle.pieces.specs.Described.{decoratorBytes, parameterBytes}
-use Rattle.sheet.specs.Described.{HeadText, BodyText, oneText, headAndTail, MemberText, ClassText}
-
-abbrev pub headBytes : HeadText → List ℕ
-headBytes h = kindCode (h .kind) ∷ flagsCode (h .flags) (h .present) ∷ keyCode (h .key .kind) ∷ text (h .key .text)
-
-abbrev pub bodyBytes : BodyText → List ℕ
-bodyBytes (oneText t) = text t
-bodyBytes (headAndTail head tail) = text head ++ text tail
-
--- what stands behind a member's length
-abbrev pub restBytes : MemberText → List ℕ
-restBytes m =
-    headBytes (m .head)
-    ++ (listOf decoratorBytes (m .decorators) ++ (listOf parameterBytes (m .parameters) ++ bodyBytes (m .body)))
+use Rattle.pieces.specs.Described.{MemberText}
+use Rattle.pieces.specs.Layout.{restBytes}
+use Rattle.sheet.specs.Described.{ClassText}
 
 abbrev pub memberBytes : MemberText → List ℕ
 memberBytes m = text (restBytes m)

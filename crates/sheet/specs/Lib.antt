@@ -1,7 +1,6 @@
 pub mod Claims
 pub mod Classes
 pub mod Described
-pub mod Fields
 pub mod Kept
 pub mod Layout
 pub mod Members

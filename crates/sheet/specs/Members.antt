@@ -10,17 +10,17 @@ use Rattle.std.specs.declared.result.Result.{Result}
 use Rattle.std.specs.declared.result.Result.the-variants.{Ok, Err}
 use Rattle.formats.specs.Readers.{then, faulted}
 use Rattle.formats.specs.Reading.{end, textAt}
-use Rattle.sheet.specs.declared.parts.Body.{Body}
-use Rattle.sheet.specs.declared.parts.Body.the-variants.{Text, Constructor}
+use Rattle.pieces.specs.declared.parts.Body.{Body}
+use Rattle.pieces.specs.declared.parts.Body.the-variants.{Text, Constructor}
 use Rattle.sheet.specs.declared.member.Member.{Member}
 use Rattle.sheet.specs.declared.refusal.MemberFault.{MemberFault}
 use Rattle.sheet.specs.declared.refusal.MemberFault.the-variants.{BrokenRule, SetterParameter}
-use Rattle.sheet.specs.declared.refusal.Numbered.{Numbered}
+use Rattle.refusals.specs.declared.Numbered.{Numbered}
 use Rattle.sheet.specs.declared.refusal.Refusal.{Refusal}
 use Rattle.sheet.specs.Refusals.{refusalOf, reading, members}
 use Rattle.sheet.specs.Rules.{lawful, settable}
 use Rattle.sheet.specs.Seen.{Seen, seenParts, outline}
-use Rattle.sheet.specs.Fields.{Fields, fieldsAt}
+use Rattle.pieces.specs.Fields.{Fields, fieldsAt}
 
 abbrev pub isBlank : Body → Bool
 isBlank (Text p) = eqb (p .length) 0

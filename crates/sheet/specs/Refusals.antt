@@ -8,9 +8,9 @@ use Rattle.formats.specs.declared.ReadFault.{ReadFault}
 use Rattle.formats.specs.declared.ReadFault.the-variants.{Version, CutShort, Spare, Unknown, NoName}
 use Rattle.sheet.specs.declared.refusal.MemberFault.{MemberFault}
 use Rattle.sheet.specs.declared.refusal.MemberFault.the-variants.{BrokenRule, SetterParameter}
-use Rattle.sheet.specs.declared.refusal.Layer.{Layer}
-use Rattle.sheet.specs.declared.refusal.Layer.the-variants as layers
-use Rattle.sheet.specs.declared.refusal.Numbered.{Numbered}
+use Rattle.refusals.specs.declared.Layer.{Layer}
+use Rattle.refusals.specs.declared.Layer.the-variants as layers
+use Rattle.refusals.specs.declared.Numbered.{Numbered}
 use Rattle.sheet.specs.declared.refusal.Refusal.{Refusal}
 use Rattle.sheet.specs.declared.refusal.Refusal.the-variants.{Reading, Members, Memory}
 

@@ -10,7 +10,7 @@ use Rattle.pieces.specs.declared.codes.Flags.{Flags}
 use Rattle.pieces.specs.declared.parts.Key.{Key}
 use Rattle.pieces.specs.declared.parts.Decorator.{Decorator}
 use Rattle.pieces.specs.declared.parts.Parameter.{Parameter}
-use Rattle.sheet.specs.declared.parts.Body.{Body}
+use Rattle.pieces.specs.declared.parts.Body.{Body}
 use Rattle.sheet.specs.declared.parts.Parts.{Parts}
 use Rattle.sheet.specs.Rules.{Outline, beginsPlain}
 

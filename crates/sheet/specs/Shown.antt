@@ -8,41 +8,19 @@ use Rattle.std.specs.declared.option.Option.the-variants.{Some, None}
 use Rattle.formats.specs.declared.Place.{Place}
 use Rattle.formats.specs.Reading.{bytesAt}
 use Rattle.pieces.specs.declared.codes.Kind.{Kind}
-use Rattle.pieces.specs.Described.{shownDecorator, shownParameter}
-use Rattle.sheet.specs.declared.parts.Body.{Body}
-use Rattle.sheet.specs.declared.parts.Body.the-variants.{Text, Constructor}
-use Rattle.sheet.specs.declared.fields.Head.{Head}
+use Rattle.pieces.specs.declared.parts.Body.{Body}
+use Rattle.pieces.specs.Bodies.{isConstructor}
+use Rattle.pieces.specs.Described.{BodyText, oneText, headAndTail, MemberText}
+use Rattle.pieces.specs.Shown.{shownDecorator, shownParameter, shownBody}
 use Rattle.sheet.specs.Classes.{SeenClass}
-use Rattle.sheet.specs.Described.{HeadText, BodyText, oneText, headAndTail, MemberText, ClassText}
-use Rattle.sheet.specs.Fields.{Fields}
-use Rattle.sheet.specs.Rules.{isConstructor}
+use Rattle.sheet.specs.Described.{ClassText}
 use Rattle.sheet.specs.Seen.{Seen}
 
 module _ (s : List ℕ) where
-  abbrev pub shownHead : Head → HeadText
-  shownHead h = record {
-    kind = h .kind;
-    flags = h .flags;
-    present = h .present;
-    key = record { kind = h .key .kind; text = bytesAt s (h .key .text) };
-  }
-
-  abbrev pub shownBody : Body → BodyText
-  shownBody (Text p) = oneText (bytesAt s p)
-  shownBody (Constructor head tail) = headAndTail (bytesAt s head) (bytesAt s tail)
-
   -- the texts of a value or body that is not there are empty
   abbrev pub shownOption : Kind → Option Body → BodyText
   shownOption kind None = cond (isConstructor kind) (headAndTail [] []) (oneText [])
-  shownOption kind (Some b) = shownBody b
-
-  abbrev pub shownFields : Fields → MemberText
-  shownFields f = record {
-    head = shownHead (f .head);
-    decorators = map (shownDecorator s) (f .decorators);
-    parameters = map (shownParameter s) (f .parameters);
-    body = shownBody (f .body);
-  }
+  shownOption kind (Some b) = shownBody s b
 
   abbrev pub shownMember : Seen → MemberText
   shownMember m = record {

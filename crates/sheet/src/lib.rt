@@ -1,6 +1,5 @@
 //! Sheets: the binary description of a class, read into its members.
 mod class;
-mod fields;
 mod member;
 mod opening;
 mod parts;
@@ -10,14 +9,27 @@ mod rules;
 mod whole;
 
 pub use class::Class;
+pub use formats::Place;
+pub use formats::ReadFault;
+pub use formats::Sheet;
 pub use member::Member;
-pub use parts::Body;
 pub use parts::Parts;
-pub use refusal::Layer;
+pub use pieces::codes::Flags;
+pub use pieces::codes::Form;
+pub use pieces::codes::KeyKind;
+pub use pieces::codes::Kind;
+pub use pieces::codes::Shape;
+pub use pieces::parts::Body;
+pub use pieces::parts::Decorator;
+pub use pieces::parts::Key;
+pub use pieces::parts::Parameter;
 pub use refusal::MemberFault;
 pub use refusal::MembersRefused;
 pub use refusal::MemoryRefused;
-pub use refusal::Numbered;
 pub use refusal::ReadingRefused;
 pub use refusal::Refusal;
+pub use refusals::Layer;
+pub use refusals::LayerDisplay;
+pub use refusals::Numbered;
+pub use refusals::NumberedDisplay;
 pub use whole::read;

@@ -1,18 +1,18 @@
 //! Reads a member, and then looks at its rules.
 ghost use mathlib.Core.Path.{_≡_};
 ghost use Rattle.formats.specs.Reading.{bytesOf};
-ghost use Rattle.sheet.specs.Fields.{seenWritten};
+ghost use Rattle.pieces.specs.Fields.{seenWritten};
 ghost use Rattle.sheet.specs.Members.{isBlank, bodyOf, memberOf, madeIn, memberAt, seen};
-use crate::fields::Written;
-use crate::fields::read_fields;
 use crate::member::Member;
-use crate::parts::Body;
 use crate::parts::Parts;
 use crate::refusal::MemberFault;
 use crate::refusal::MembersRefused;
 use crate::refusal::ReadingRefused;
 use crate::refusal::Refusal;
 use formats::Sheet;
+use pieces::fields::Written;
+use pieces::fields::read_fields;
+use pieces::parts::Body;
 
 fn is_blank(body: Body) -> bool
     ensures { λ r. ⌜ r ≡ isBlank body ⌝ }

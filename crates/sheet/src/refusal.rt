@@ -3,6 +3,8 @@ ghost use mathlib.Core.Path.{_≡_};
 ghost use Rattle.sheet.specs.declared.refusal.Refusal.the-variants.{Reading, Members, Memory};
 ghost use Rattle.sheet.specs.Refusals.{refusalOf};
 use formats::ReadFault;
+use refusals::Layer;
+use refusals::Numbered;
 use std::alloc::AllocError;
 
 /// A member breaks a rule; it begins at `at`.
@@ -20,21 +22,6 @@ pub enum Refusal {
     Reading(ReadFault),
     Members(MemberFault),
     Memory,
-}
-
-/// The layer that refuses.
-#[derive(Clone, Copy)]
-pub enum Layer {
-    Reading,
-    Members,
-}
-
-/// A refusal as it is told: a number, the layer that refuses, and the place at fault.
-#[derive(Clone, Copy)]
-pub struct Numbered {
-    pub number: u8,
-    pub layer: Layer,
-    pub place: usize,
 }
 
 pub impl From<ReadFault> for Refusal as ReadingRefused {

@@ -1,29 +1,31 @@
 //! The fields of a member as they are written, before its rules are looked at.
 ghost use mathlib.Core.Path.{_≡_};
 ghost use mathlib.Core.Bool.{true};
-ghost use Rattle.sheet.specs.Rules.{bodyFits};
+ghost use Rattle.pieces.specs.Bodies.{bodyFits};
+use crate::codes::Flags;
+use crate::codes::Kind;
 use crate::parts::Body;
-use crate::parts::MOST_DECORATORS;
-use crate::parts::MOST_PARAMETERS;
+use crate::parts::Decorator;
+use crate::parts::Key;
+use crate::parts::Parameter;
 use lists::Bounded;
-use pieces::codes::Flags;
-use pieces::codes::Kind;
-use pieces::parts::Decorator;
-use pieces::parts::Key;
-use pieces::parts::Parameter;
 
 mod reading;
 
-pub(crate) use reading::read_fields;
+pub use reading::read_fields;
+
+pub const MOST_DECORATORS: usize = 8;
+
+pub const MOST_PARAMETERS: usize = 16;
 
 /// What stands before a member's lists.
 #[derive(Clone, Copy)]
 pub struct Head {
-    pub(crate) kind: Kind,
-    pub(crate) flags: Flags,
+    pub kind: Kind,
+    pub flags: Flags,
     /// Whether the value or body is there.
-    pub(crate) present: bool,
-    pub(crate) key: Key,
+    pub present: bool,
+    pub key: Key,
 }
 
 /// A member's fields. Its texts stand there also where the value or body is not.

@@ -11,17 +11,17 @@ use Rattle.formats.specs.declared.ReadFault.the-variants.{Spare}
 use Rattle.formats.specs.Readers.{then}
 use Rattle.formats.specs.Reading.{end, byteAt}
 use Rattle.lists.specs.Listed.{listed, Reader, counted}
 use Rattle.pieces.specs.declared.codes.Kind.{Kind}
 use Rattle.pieces.specs.declared.parts.Decorator.{Decorator}
 use Rattle.pieces.specs.declared.parts.Parameter.{Parameter}
 use Rattle.pieces.specs.Codes.{kindOf, flagsOf, keyKindOf}
 use Rattle.pieces.specs.Parts.{pieceAt, placeOf, key, body}
 use Rattle.pieces.specs.Items.{decoratorAt, parameterAt}
-use Rattle.sheet.specs.declared.parts.Body.{Body}
-use Rattle.sheet.specs.declared.parts.Body.the-variants.{Text, Constructor}
-use Rattle.sheet.specs.declared.fields.Head.{Head}
-use Rattle.sheet.specs.declared.fields.Written.{Written}
-use Rattle.sheet.specs.Rules.{isConstructor}
+use Rattle.pieces.specs.declared.parts.Body.{Body}
+use Rattle.pieces.specs.declared.parts.Body.the-variants.{Text, Constructor}
+use Rattle.pieces.specs.declared.fields.Head.{Head}
+use Rattle.pieces.specs.declared.fields.Written.{Written}
+use Rattle.pieces.specs.Bodies.{isConstructor}
 
 abbrev pub headAt : List ℕ → Reader Head
 headAt s at =

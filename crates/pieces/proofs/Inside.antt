@@ -14,17 +14,17 @@ use Rattle.formats.specs.Readers.{then}
 use Rattle.formats.specs.Reading.{end, byteAt}
 use Rattle.formats.proofs.Formats.{went, same-ok, not-refused}
 use Rattle.lists.specs.Listed.{counted}
 use Rattle.pieces.specs.declared.codes.Kind.{Kind}
 use Rattle.pieces.specs.Codes.{kindOf, flagsOf, keyKindOf}
 use Rattle.pieces.specs.Items.{decoratorAt, parameterAt}
 use Rattle.pieces.specs.Parts.{pieceAt, placeOf, key, body, namesKey}
 use Rattle.pieces.proofs.Texts.{piece-inside}
-use Rattle.sheet.specs.declared.parts.Body.{Body}
-use Rattle.sheet.specs.declared.parts.Body.the-variants.{Text, Constructor}
-use Rattle.sheet.specs.declared.fields.Head.{Head}
-use Rattle.sheet.specs.Fields.{Fields, headAt, bodyAt, fieldsAt}
-use Rattle.sheet.specs.Rules.{isConstructor}
-use Rattle.sheet.proofs.Layouts.{makes-key, makes-body}
+use Rattle.pieces.specs.declared.parts.Body.{Body}
+use Rattle.pieces.specs.declared.parts.Body.the-variants.{Text, Constructor}
+use Rattle.pieces.specs.declared.fields.Head.{Head}
+use Rattle.pieces.specs.Fields.{Fields, headAt, bodyAt, fieldsAt}
+use Rattle.pieces.specs.Bodies.{isConstructor}
+use Rattle.pieces.proofs.Layouts.{makes-key, makes-body}
 
 -- the texts of a body end before `n`
 abbrev pub BodyInside : ℕ → Body → Type 0

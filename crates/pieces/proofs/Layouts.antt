@@ -20,22 +20,21 @@ use Rattle.formats.proofs.Formats.{Reads, UpTo, Just, done, field, final, closi
 use Rattle.formats.proofs.Parts.{coded}
 use Rattle.formats.proofs.Windows.{length-window}
 use Rattle.lists.specs.Listed.{counted}
 use Rattle.pieces.specs.declared.codes.Kind.{Kind}
 use Rattle.pieces.specs.declared.codes.KeyKind.{KeyKind}
 use Rattle.pieces.specs.Codes.{kindOf, kindCode, flagsOf, keyKindOf, keyCode}
-use Rattle.pieces.specs.Described.{KeptText}
 use Rattle.pieces.specs.Items.{decoratorAt, parameterAt}
 use Rattle.pieces.specs.Parts.{pieceAt, placeOf, key, body, namesKey}
 use Rattle.pieces.proofs.Inverses.{kinds, flags, flaggedCode, keys}
 use Rattle.pieces.proofs.Texts.{Makes, piece-reads, decorators-reads, parameters-reads}
-use Rattle.sheet.specs.declared.parts.Body.{Body}
-use Rattle.sheet.specs.declared.parts.Body.the-variants.{Text, Constructor}
-use Rattle.sheet.specs.Described.{HeadText, BodyText, oneText, headAndTail, MemberText}
-use Rattle.sheet.specs.Fields.{Fields, headAt, bodyAt, fieldsAt}
-use Rattle.sheet.specs.Kept.{KeptHead, KeptBody, KeptFields}
-use Rattle.sheet.specs.Layout.{headBytes, bodyBytes, restBytes}
-use Rattle.sheet.specs.Rules.{isConstructor}
-use Rattle.sheet.specs.Shown.{shownHead, shownBody, shownFields}
+use Rattle.pieces.specs.declared.parts.Body.{Body}
+use Rattle.pieces.specs.declared.parts.Body.the-variants.{Text, Constructor}
+use Rattle.pieces.specs.Described.{HeadText, BodyText, oneText, headAndTail, MemberText}
+use Rattle.pieces.specs.Fields.{Fields, headAt, bodyAt, fieldsAt}
+use Rattle.pieces.specs.Kept.{KeptText, KeptHead, KeptBody, KeptFields}
+use Rattle.pieces.specs.Layout.{headBytes, bodyBytes, restBytes}
+use Rattle.pieces.specs.Bodies.{isConstructor}
+use Rattle.pieces.specs.Shown.{shownHead, shownBody, shownFields}
 
 pub makes-key : (of : Kind) (k : KeyKind) → Makes (key of k) (namesKey of k)
 makes-key of k = record { place = λ t p. refl; bytes = λ t p. refl; names = λ t p. refl }

@@ -1,25 +1,25 @@
 //! Reads the fields of a member.
 ghost use mathlib.Core.Path.{_≡_};
 ghost use Rattle.formats.specs.Reading.{bytesOf};
-ghost use Rattle.sheet.specs.Fields.{headAt, bodyAt, fieldsAt, seenFields};
+ghost use Rattle.pieces.specs.Fields.{headAt, bodyAt, fieldsAt, seenFields};
 use super::Head;
+use super::MOST_DECORATORS;
+use super::MOST_PARAMETERS;
 use super::Written;
+use crate::codes::Flags;
+use crate::codes::KeyKind;
+use crate::codes::Kind;
 use crate::parts::Body;
-use crate::parts::MOST_DECORATORS;
-use crate::parts::MOST_PARAMETERS;
+use crate::parts::Decorator;
+use crate::parts::DecoratorItem;
+use crate::parts::Key;
+use crate::parts::Parameter;
+use crate::parts::ParameterItem;
+use crate::piece::body_at;
+use crate::piece::key_at;
 use formats::ReadFault;
 use formats::Sheet;
 use lists::read_list;
-use pieces::codes::Flags;
-use pieces::codes::KeyKind;
-use pieces::codes::Kind;
-use pieces::parts::Decorator;
-use pieces::parts::DecoratorItem;
-use pieces::parts::Key;
-use pieces::parts::Parameter;
-use pieces::parts::ParameterItem;
-use pieces::piece::body_at;
-use pieces::piece::key_at;
 
 /// The kind, the flags and the key at `at`, and where the next field begins.
 fn read_head(sheet: Sheet<'_>, at: usize) -> Result<(Head, usize), ReadFault>
@@ -30,7 +30,10 @@ fn read_head(sheet: Sheet<'_>, at: usize) -> Result<(Head, usize), ReadFault>
     let key_kind = KeyKind::of(sheet.byte(at + 2)?, at + 2)?;
     let piece = key_at(sheet, kind, key_kind, at + 3)?;
     let text = piece.place();
-    let key = Key { kind: key_kind, text };
+    let key = Key {
+        kind: key_kind,
+        text,
+    };
     Ok((
         Head {
             kind,
@@ -55,7 +58,7 @@ fn read_body(sheet: Sheet<'_>, kind: Kind, at: usize) -> Result<(Body, usize), R
 }
 
 /// The fields of the member that begin at `at` and end with the sheet.
-pub(crate) fn read_fields(sheet: Sheet<'_>, at: usize) -> Result<Written, ReadFault>
+pub fn read_fields(sheet: Sheet<'_>, at: usize) -> Result<Written, ReadFault>
     ensures { λ r. ⌜ seenFields r ≡ fieldsAt (bytesOf (sheet .entry)) at ⌝ }
 {
     let (head, next) = read_head(sheet, at)?;
