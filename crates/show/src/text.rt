@@ -1,0 +1,78 @@
+//! Texts of a sheet on a line of a terminal.
+ghost use Rattle.show.specs.Escapes.{Suits};
+use std::fmt;
+
+/// A text of a sheet, shown on one line and without a control character.
+///
+/// Printable ASCII stands as it is, but for the backslash. What lies beyond ASCII does so too if the whole text is UTF-8.
+#[derive(Clone, Copy)]
+pub struct Text<'s> {
+    pub bytes: &'s [u8],
+}
+
+/// How a character is shown.
+#[derive(Clone, Copy)]
+enum Escape {
+    /// As it is.
+    Plain,
+    /// By a backslash and this letter.
+    Letter(char),
+    /// By `\x` and two hexadecimal digits.
+    Code,
+}
+
+fn escape_of(c: char) -> Escape
+    ensures { λ r. ⌜ Suits r c ⌝ }
+{
+    match c {
+        '\n' => Escape::Letter('n'),
+        '\r' => Escape::Letter('r'),
+        '\t' => Escape::Letter('t'),
+        '\\' => Escape::Letter('\\'),
+        '\0'..='\x1f' | '\x7f'..='\u{9f}' => Escape::Code,
+        _ => Escape::Plain,
+    }
+}
+
+fn write_code<W: fmt::Write>(code: u32, f: &mut fmt::Formatter<W>) -> fmt::Result {
+    write!(f, "\\x{code:02x}")
+}
+
+fn write_char<W: fmt::Write>(c: char, f: &mut fmt::Formatter<W>) -> fmt::Result {
+    match escape_of(c) {
+        Escape::Plain => f.write_char(c),
+        Escape::Letter(letter) => write!(f, "\\{letter}"),
+        Escape::Code => write_code(u32::from(c), f),
+    }
+}
+
+fn write_byte<W: fmt::Write>(b: u8, f: &mut fmt::Formatter<W>) -> fmt::Result {
+    if b.is_ascii() {
+        write_char(char::from(b), f)
+    } else {
+        write_code(u32::from(b), f)
+    }
+}
+
+fn write_chars<W: fmt::Write>(text: &str, f: &mut fmt::Formatter<W>) -> fmt::Result {
+    for c in text.chars() {
+        write_char(c, f)?;
+    }
+    Ok(())
+}
+
+fn write_bytes<W: fmt::Write>(bytes: &[u8], f: &mut fmt::Formatter<W>) -> fmt::Result {
+    for b in bytes {
+        write_byte(*b, f)?;
+    }
+    Ok(())
+}
+
+pub impl fmt::Display for Text<'_> as TextDisplay {
+    fn fmt<W: fmt::Write>(&self, f: &mut fmt::Formatter<W>) -> fmt::Result {
+        match std::str::from_utf8(self.bytes) {
+            Ok(text) => write_chars(text, f),
+            Err(_) => write_bytes(self.bytes, f),
+        }
+    }
+}
