@@ -1,22 +1,18 @@
 //! Bytes in hexadecimal digits.
-ghost use mathlib.Core.Path.{_≡_};
-ghost use Rattle.reader_cases.specs.Hex.{digitOf, byteOf};
-use crate::table::Fault;
+use std::error::AnyError;
 
 /// The byte of two hexadecimal digits.
-pub(crate) fn hex_byte(high: u8, low: u8) -> Result<u8, Fault>
-    ensures { λ r. ⌜ r ≡ byteOf high low ⌝ }
-{
-    Ok(hex_digit(high)? * 16 + hex_digit(low)?)
+pub(crate) fn hex_byte(high: u8, low: u8) -> Result<u8, AnyError> {
+    match (hex_digit(high), hex_digit(low)) {
+        (Some(high), Some(low)) if high < 16 && low < 16 => Ok(high * 16 + low),
+        _ => Err("no hexadecimal digit".into()),
+    }
 }
 
-fn hex_digit(digit: u8) -> Result<u8, Fault>
-    ensures { λ r. ⌜ r ≡ digitOf digit ⌝ }
-{
+fn hex_digit(digit: u8) -> Option<u8> {
     match digit {
-        b'0'..=b'9' => Ok(digit - b'0'),
-        b'a'..=b'f' => Ok(digit - b'a' + 10),
-        b'A'..=b'F' => Ok(digit - b'A' + 10),
-        _ => Err(Fault::BadToken),
+        b'0'..=b'9' => Some(digit - b'0'),
+        b'a'..=b'f' => Some(digit - b'a' + 10),
+        _ => None,
     }
 }

@@ -1,9 +1,7 @@
 //! The lines of a table of sheets.
 use crate::hex::hex_byte;
-use std::alloc::AllocError;
 use std::alloc::Global;
-use std::alloc::Refused;
-use std::fmt;
+use std::error::AnyError;
 
 /// A named sheet.
 #[derive(Drop)]
@@ -12,94 +10,41 @@ pub struct Case<'l> {
     pub bytes: Vec<u8>,
 }
 
-/// Why a line is no case.
-#[derive(Clone, Copy)]
-pub enum Fault {
-    /// No name stands before a colon.
-    NoName,
-    /// A token is neither pairs of hexadecimal digits nor one pair, `*` and a decimal count.
-    BadToken,
-    Memory,
-}
-
-pub impl From<AllocError> for Fault as MemoryFault {
-    fn from(_error: AllocError) -> Fault {
-        Fault::Memory
-    }
-}
-
-pub impl<T: Drop> From<Refused<T>> for Fault as RefusedFault {
-    fn from(_refused: Refused<T>) -> Fault {
-        Fault::Memory
-    }
-}
-
-pub impl fmt::Display for Fault as FaultDisplay {
-    fn fmt<W: fmt::Write>(&self, f: &mut fmt::Formatter<W>) -> fmt::Result {
-        let words = match self {
-            Fault::NoName => "no name before a colon",
-            Fault::BadToken => "a token that is no bytes",
-            Fault::Memory => "want of memory",
-        };
-        f.write_str(words)
-    }
-}
-
 impl<'l> Case<'l> {
     /// The case of a line: a name, a colon, and tokens with blanks between them.
-    pub(crate) fn parse(heap: Global, line: &'l str) -> Result<Case<'l>, Fault> {
+    pub(crate) fn parse(heap: Global, line: &'l str) -> Result<Case<'l>, AnyError> {
         let Some((name, tokens)) = line.split_once(':') else {
-            return Err(Fault::NoName);
+            return Err("no name before a colon".into());
         };
-        if name.is_empty() {
-            return Err(Fault::NoName);
-        }
         let mut bytes = Vec::new(heap);
         for token in tokens.split(' ') {
-            push_token(&mut bytes, token)?;
+            match token.split_once('*') {
+                Some((byte, count)) => push_run(&mut bytes, byte.as_bytes(), count)?,
+                None => push_pairs(&mut bytes, token.as_bytes())?,
+            }
         }
         Ok(Case { name, bytes })
     }
 }
 
-fn push_token(bytes: &mut Vec<u8>, token: &str) -> Result<(), Fault> {
-    match token.split_once('*') {
-        Some((byte, count)) => push_run(bytes, byte.as_bytes(), count),
-        None => push_pairs(bytes, token.as_bytes()),
-    }
-}
-
-/// Appends a byte as often as `count` says.
-fn push_run(bytes: &mut Vec<u8>, byte: &[u8], count: &str) -> Result<(), Fault> {
+/// Appends a byte, a pair of hexadecimal digits, as often as `count` says.
+fn push_run(bytes: &mut Vec<u8>, byte: &[u8], count: &str) -> Result<(), AnyError> {
     let [high, low] = byte else {
-        return Err(Fault::BadToken);
+        return Err("a repeated byte is no pair of digits".into());
     };
     let byte = hex_byte(*high, *low)?;
-    let count = decimal(count)?;
-    let Some(len) = bytes.len().checked_add(count) else {
-        return Err(Fault::Memory);
-    };
+    let len = bytes.len().saturating_add(count.parse::<usize>()?);
     bytes.resize(len, byte)?;
     Ok(())
 }
 
 /// Appends a byte for each pair of digits.
-fn push_pairs(bytes: &mut Vec<u8>, digits: &[u8]) -> Result<(), Fault> {
+fn push_pairs(bytes: &mut Vec<u8>, digits: &[u8]) -> Result<(), AnyError> {
     if digits.len() % 2 != 0 {
-        return Err(Fault::BadToken);
+        return Err("a digit without its pair".into());
     }
     for pair in digits.chunks_exact(2) {
         bytes.push(hex_byte(pair[0], pair[1])?)?;
     }
     Ok(())
-}
-
-fn decimal(digits: &str) -> Result<usize, Fault> {
-    if digits.starts_with('+') {
-        return Err(Fault::BadToken);
-    }
-    match digits.parse::<usize>() {
-        Ok(count) => Ok(count),
-        Err(_) => Err(Fault::BadToken),
-    }
 }

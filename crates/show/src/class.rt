@@ -19,7 +19,10 @@ pub impl fmt::Display for Listing<'_> as ListingDisplay {
         for (number, member) in self.class.members.iter().enumerate() {
             write_member(number, member.parts(), self.sheet, f)?;
         }
-        write_count(self.class.members.len(), f)
+        match self.class.members.len() {
+            1 => f.write_str("1 member\n"),
+            count => writeln!(f, "{count} members"),
+        }
     }
 }
 
@@ -39,13 +42,5 @@ fn write_heading<W: fmt::Write>(
             writeln!(f, "class {name} extends {superclass}")
         }
         None => writeln!(f, "class {name}"),
-    }
-}
-
-fn write_count<W: fmt::Write>(count: usize, f: &mut fmt::Formatter<W>) -> fmt::Result {
-    if count == 1 {
-        f.write_str("1 member\n")
-    } else {
-        writeln!(f, "{count} members")
     }
 }

@@ -1,14 +1,12 @@
 //! A member of a class as it is shown: a line that names it, and a line for each of its other parts.
 use crate::text::Text;
 use crate::text::TextDisplay;
-use crate::words::form_word;
-use crate::words::key_words;
-use crate::words::kind_word;
+use crate::words::kind_words;
 use crate::words::shape_word;
-use crate::words::text_word;
 use sheet::Body;
 use sheet::Decorator;
 use sheet::Flags;
+use sheet::Form;
 use sheet::Key;
 use sheet::KeyKind;
 use sheet::Parameter;
@@ -24,33 +22,33 @@ pub(crate) fn write_member<W: fmt::Write>(
     sheet: Sheet<'_>,
     f: &mut fmt::Formatter<W>,
 ) -> fmt::Result {
+    let (kind, body) = kind_words(parts.kind);
     write!(f, "member {number}: ")?;
     write_flags(parts.flags, f)?;
-    f.write_str(kind_word(parts.kind))?;
+    f.write_str(kind)?;
     write_key(parts.key, parts.flags.is_private, sheet, f)?;
-    write_key_kind(parts.key.kind, f)?;
-    for decorator in parts.decorators.as_slice() {
-        write_decorator(*decorator, sheet, f)?;
-    }
-    for parameter in parts.parameters.as_slice() {
-        write_parameter(*parameter, sheet, f)?;
-    }
-    write_body(text_word(parts.kind), parts.body, sheet, f)
+    write_decorators(parts.decorators.as_slice(), sheet, f)?;
+    write_parameters(parts.parameters.as_slice(), sheet, f)?;
+    write_body(body, parts.body, sheet, f)
 }
 
 fn write_flags<W: fmt::Write>(flags: Flags, f: &mut fmt::Formatter<W>) -> fmt::Result {
-    write_flag(flags.is_static, "static ", f)?;
-    write_flag(flags.is_declared, "declare ", f)?;
-    write_flag(flags.is_async, "async ", f)?;
-    write_flag(flags.is_generator, "generator ", f)?;
-    write_flag(flags.is_private, "private ", f)
+    let words = [
+        (flags.is_static, "static "),
+        (flags.is_declared, "declare "),
+        (flags.is_async, "async "),
+        (flags.is_generator, "generator "),
+        (flags.is_private, "private "),
+    ];
+    for (is_set, word) in words {
+        if is_set {
+            f.write_str(word)?;
+        }
+    }
+    Ok(())
 }
 
-fn write_flag<W: fmt::Write>(is_set: bool, word: &str, f: &mut fmt::Formatter<W>) -> fmt::Result {
-    if is_set { f.write_str(word) } else { Ok(()) }
-}
-
-/// The key as JavaScript writes it, behind a blank; nothing where it is empty. It ends the member's first line.
+/// The key as JavaScript writes it, behind a blank, which ends the member's first line; and what it is, but for identifiers.
 fn write_key<W: fmt::Write>(
     key: Key,
     is_private: bool,
@@ -61,37 +59,45 @@ fn write_key<W: fmt::Write>(
         bytes: sheet.part(key.text),
     };
     match key.kind {
-        KeyKind::ComputedIdentifier | KeyKind::Computed => writeln!(f, " [{text}]"),
         KeyKind::Identifier if is_private => writeln!(f, " #{text}"),
-        KeyKind::Identifier | KeyKind::Literal => write_text(key.text, sheet, f),
+        KeyKind::Identifier => write_text(key.text, sheet, f),
+        KeyKind::Literal => {
+            write_text(key.text, sheet, f)?;
+            f.write_str("  key: string or number literal\n")
+        }
+        KeyKind::ComputedIdentifier => writeln!(f, " [{text}]\n  key: computed identifier"),
+        KeyKind::Computed => writeln!(f, " [{text}]\n  key: computed"),
     }
 }
 
-fn write_key_kind<W: fmt::Write>(kind: KeyKind, f: &mut fmt::Formatter<W>) -> fmt::Result {
-    match key_words(kind) {
-        Some(words) => writeln!(f, "  key: {words}"),
-        None => Ok(()),
+fn write_decorators<W: fmt::Write>(
+    decorators: &[Decorator],
+    sheet: Sheet<'_>,
+    f: &mut fmt::Formatter<W>,
+) -> fmt::Result {
+    for decorator in decorators {
+        let shape = shape_word(decorator.shape);
+        write!(f, "  decorator: {shape}")?;
+        write_text(decorator.text, sheet, f)?;
     }
+    Ok(())
 }
 
-fn write_decorator<W: fmt::Write>(
-    decorator: Decorator,
+fn write_parameters<W: fmt::Write>(
+    parameters: &[Parameter],
     sheet: Sheet<'_>,
     f: &mut fmt::Formatter<W>,
 ) -> fmt::Result {
-    let shape = shape_word(decorator.shape);
-    write!(f, "  decorator: {shape}")?;
-    write_text(decorator.text, sheet, f)
-}
-
-fn write_parameter<W: fmt::Write>(
-    parameter: Parameter,
-    sheet: Sheet<'_>,
-    f: &mut fmt::Formatter<W>,
-) -> fmt::Result {
-    let form = form_word(parameter.form);
-    write!(f, "  parameter: {form}")?;
-    write_text(parameter.text, sheet, f)
+    for parameter in parameters {
+        f.write_str(
+            match parameter.form {
+                Form::Plain => "  parameter: plain",
+                Form::Other => "  parameter: other",
+            },
+        )?;
+        write_text(parameter.text, sheet, f)?;
+    }
+    Ok(())
 }
 
 fn write_body<W: fmt::Write>(
@@ -102,22 +108,17 @@ fn write_body<W: fmt::Write>(
 ) -> fmt::Result {
     match body {
         None => writeln!(f, "  no {word}"),
-        Some(Body::Text(text)) => write_labeled(word, text, sheet, f),
+        Some(Body::Text(text)) => {
+            write!(f, "  {word}:")?;
+            write_text(text, sheet, f)
+        }
         Some(Body::Constructor { head, tail }) => {
-            write_labeled("head", head, sheet, f)?;
-            write_labeled("tail", tail, sheet, f)
+            f.write_str("  head:")?;
+            write_text(head, sheet, f)?;
+            f.write_str("  tail:")?;
+            write_text(tail, sheet, f)
         }
     }
-}
-
-fn write_labeled<W: fmt::Write>(
-    label: &str,
-    text: Place,
-    sheet: Sheet<'_>,
-    f: &mut fmt::Formatter<W>,
-) -> fmt::Result {
-    write!(f, "  {label}:")?;
-    write_text(text, sheet, f)
 }
 
 /// Ends a line with a blank and a text, or at once where the text is empty.

@@ -34,45 +34,38 @@ fn escape_of(c: char) -> Escape
     }
 }
 
-fn write_code<W: fmt::Write>(code: u32, f: &mut fmt::Formatter<W>) -> fmt::Result {
-    write!(f, "\\x{code:02x}")
-}
-
 fn write_char<W: fmt::Write>(c: char, f: &mut fmt::Formatter<W>) -> fmt::Result {
     match escape_of(c) {
         Escape::Plain => f.write_char(c),
         Escape::Letter(letter) => write!(f, "\\{letter}"),
-        Escape::Code => write_code(u32::from(c), f),
+        Escape::Code => {
+            let code = u32::from(c);
+            write!(f, "\\x{code:02x}")
+        }
     }
 }
 
-fn write_byte<W: fmt::Write>(b: u8, f: &mut fmt::Formatter<W>) -> fmt::Result {
-    if b.is_ascii() {
-        write_char(char::from(b), f)
-    } else {
-        write_code(u32::from(b), f)
-    }
-}
-
-fn write_chars<W: fmt::Write>(text: &str, f: &mut fmt::Formatter<W>) -> fmt::Result {
-    for c in text.chars() {
-        write_char(c, f)?;
-    }
-    Ok(())
-}
-
+/// Writes bytes that are no UTF-8.
 fn write_bytes<W: fmt::Write>(bytes: &[u8], f: &mut fmt::Formatter<W>) -> fmt::Result {
     for b in bytes {
-        write_byte(*b, f)?;
+        if b.is_ascii() {
+            write_char(char::from(*b), f)?;
+        } else {
+            let code = *b;
+            write!(f, "\\x{code:02x}")?;
+        }
     }
     Ok(())
 }
 
 pub impl fmt::Display for Text<'_> as TextDisplay {
     fn fmt<W: fmt::Write>(&self, f: &mut fmt::Formatter<W>) -> fmt::Result {
-        match std::str::from_utf8(self.bytes) {
-            Ok(text) => write_chars(text, f),
-            Err(_) => write_bytes(self.bytes, f),
+        let Ok(text) = std::str::from_utf8(self.bytes) else {
+            return write_bytes(self.bytes, f);
+        };
+        for c in text.chars() {
+            write_char(c, f)?;
         }
+        Ok(())
     }
 }
