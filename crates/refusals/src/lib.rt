@@ -10,6 +10,8 @@ pub enum Layer {
     Reading,
     /// The rules of members.
     Members,
+    /// The marks that a source supplies.
+    Marks,
 }
 
 /// A refusal as it is told.
@@ -27,6 +29,7 @@ pub impl fmt::Display for Layer as LayerDisplay {
         match self {
             Layer::Reading => f.write_str("reading"),
             Layer::Members => f.write_str("members"),
+            Layer::Marks => f.write_str("marks"),
         }
     }
 }
