@@ -19,5 +19,4 @@ pub use reserving::ReservedMarks;
 pub use reserving::draw_least;
 pub use several::draw_into;
 pub use source::Exhausted;
-pub use source::ExhaustedDebug;
 pub use source::Marks;

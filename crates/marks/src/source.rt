@@ -9,7 +9,7 @@ use refusals::Layer;
 use refusals::Numbered;
 
 /// No mark is free any more. A call that draws several says how many it drew before; a single draw says 0.
-#[derive(Clone, Copy, Debug)]
+#[derive(Clone, Copy)]
 pub struct Exhausted {
     pub drawn: usize,
 }

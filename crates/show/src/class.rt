@@ -15,32 +15,24 @@ pub struct Listing<'s> {
 
 pub impl fmt::Display for Listing<'_> as ListingDisplay {
     fn fmt<W: fmt::Write>(&self, f: &mut fmt::Formatter<W>) -> fmt::Result {
-        write_heading(self.class, self.sheet, f)?;
-        for (number, member) in self.class.members.iter().enumerate() {
+        let class = self.class;
+        let name = Text {
+            bytes: self.sheet.part(class.name),
+        };
+        write!(f, "class {name}")?;
+        if let Some(place) = class.superclass {
+            let superclass = Text {
+                bytes: self.sheet.part(place),
+            };
+            write!(f, " extends {superclass}")?;
+        }
+        f.write_str("\n")?;
+        for (number, member) in class.members.iter().enumerate() {
             write_member(number, member.parts(), self.sheet, f)?;
         }
-        match self.class.members.len() {
+        match class.members.len() {
             1 => f.write_str("1 member\n"),
             count => writeln!(f, "{count} members"),
         }
-    }
-}
-
-fn write_heading<W: fmt::Write>(
-    class: &Class,
-    sheet: Sheet<'_>,
-    f: &mut fmt::Formatter<W>,
-) -> fmt::Result {
-    let name = Text {
-        bytes: sheet.part(class.name),
-    };
-    match class.superclass {
-        Some(place) => {
-            let superclass = Text {
-                bytes: sheet.part(place),
-            };
-            writeln!(f, "class {name} extends {superclass}")
-        }
-        None => writeln!(f, "class {name}"),
     }
 }

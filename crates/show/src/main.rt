@@ -2,7 +2,6 @@
 mod class;
 mod member;
 mod text;
-mod words;
 
 use class::Listing;
 use class::ListingDisplay;

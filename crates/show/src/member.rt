@@ -1,17 +1,17 @@
 //! A member of a class as it is shown: a line that names it, and a line for each of its other parts.
 use crate::text::Text;
 use crate::text::TextDisplay;
-use crate::words::kind_words;
-use crate::words::shape_word;
 use sheet::Body;
 use sheet::Decorator;
 use sheet::Flags;
 use sheet::Form;
 use sheet::Key;
 use sheet::KeyKind;
+use sheet::Kind;
 use sheet::Parameter;
 use sheet::Parts;
 use sheet::Place;
+use sheet::Shape;
 use sheet::Sheet;
 use std::fmt;
 
@@ -30,6 +30,19 @@ pub(crate) fn write_member<W: fmt::Write>(
     write_decorators(parts.decorators.as_slice(), sheet, f)?;
     write_parameters(parts.parameters.as_slice(), sheet, f)?;
     write_body(body, parts.body, sheet, f)
+}
+
+/// What a member of this kind is called, and its text where it has only one.
+fn kind_words(kind: Kind) -> (&'static str, &'static str) {
+    match kind {
+        Kind::Field => ("field", "value"),
+        Kind::Accessor => ("accessor", "value"),
+        Kind::Method => ("method", "body"),
+        Kind::Getter => ("getter", "body"),
+        Kind::Setter => ("setter", "body"),
+        Kind::Constructor => ("constructor", "body"),
+        Kind::Other => ("other", "text"),
+    }
 }
 
 fn write_flags<W: fmt::Write>(flags: Flags, f: &mut fmt::Formatter<W>) -> fmt::Result {
@@ -76,8 +89,14 @@ fn write_decorators<W: fmt::Write>(
     f: &mut fmt::Formatter<W>,
 ) -> fmt::Result {
     for decorator in decorators {
-        let shape = shape_word(decorator.shape);
-        write!(f, "  decorator: {shape}")?;
+        f.write_str(
+            match decorator.shape {
+                Shape::Identifier => "  decorator: identifier",
+                Shape::Arrow => "  decorator: arrow",
+                Shape::Function => "  decorator: function",
+                Shape::Other => "  decorator: other",
+            },
+        )?;
         write_text(decorator.text, sheet, f)?;
     }
     Ok(())
