@@ -22,26 +22,33 @@ pub(crate) fn write_member<W: fmt::Write>(
     sheet: Sheet<'_>,
     f: &mut fmt::Formatter<W>,
 ) -> fmt::Result {
-    let (kind, body) = kind_words(parts.kind);
     write!(f, "member {number}: ")?;
     write_flags(parts.flags, f)?;
-    f.write_str(kind)?;
+    f.write_str(kind_word(parts.kind))?;
     write_key(parts.key, parts.flags.is_private, sheet, f)?;
     write_decorators(parts.decorators.as_slice(), sheet, f)?;
     write_parameters(parts.parameters.as_slice(), sheet, f)?;
-    write_body(body, parts.body, sheet, f)
+    write_body(text_word(parts.kind), parts.body, sheet, f)
 }
 
-/// What a member of this kind is called, and its text where it has only one.
-fn kind_words(kind: Kind) -> (&'static str, &'static str) {
+fn kind_word(kind: Kind) -> &'static str {
     match kind {
-        Kind::Field => ("field", "value"),
-        Kind::Accessor => ("accessor", "value"),
-        Kind::Method => ("method", "body"),
-        Kind::Getter => ("getter", "body"),
-        Kind::Setter => ("setter", "body"),
-        Kind::Constructor => ("constructor", "body"),
-        Kind::Other => ("other", "text"),
+        Kind::Field => "field",
+        Kind::Accessor => "accessor",
+        Kind::Method => "method",
+        Kind::Getter => "getter",
+        Kind::Setter => "setter",
+        Kind::Constructor => "constructor",
+        Kind::Other => "other",
+    }
+}
+
+/// What the text of a member of this kind is called, where it has only one.
+fn text_word(kind: Kind) -> &'static str {
+    match kind {
+        Kind::Field | Kind::Accessor => "value",
+        Kind::Other => "text",
+        _ => "body",
     }
 }
 

@@ -1,5 +1,4 @@
 //! Texts of a sheet on a line of a terminal.
-ghost use Rattle.show.specs.Escapes.{Suits};
 use std::fmt;
 
 /// A text of a sheet, shown on one line and without a control character.
@@ -10,38 +9,18 @@ pub struct Text<'s> {
     pub bytes: &'s [u8],
 }
 
-/// How a character is shown.
-#[derive(Clone, Copy)]
-enum Escape {
-    /// As it is.
-    Plain,
-    /// By a backslash and this letter.
-    Letter(char),
-    /// By `\x` and two hexadecimal digits.
-    Code,
-}
-
-fn escape_of(c: char) -> Escape
-    ensures { λ r. ⌜ Suits r c ⌝ }
-{
-    match c {
-        '\n' => Escape::Letter('n'),
-        '\r' => Escape::Letter('r'),
-        '\t' => Escape::Letter('t'),
-        '\\' => Escape::Letter('\\'),
-        '\0'..='\x1f' | '\x7f'..='\u{9f}' => Escape::Code,
-        _ => Escape::Plain,
-    }
-}
-
+/// Writes a character as it is, or a control character or a backslash as an escape.
 fn write_char<W: fmt::Write>(c: char, f: &mut fmt::Formatter<W>) -> fmt::Result {
-    match escape_of(c) {
-        Escape::Plain => f.write_char(c),
-        Escape::Letter(letter) => write!(f, "\\{letter}"),
-        Escape::Code => {
+    match c {
+        '\n' => f.write_str("\\n"),
+        '\r' => f.write_str("\\r"),
+        '\t' => f.write_str("\\t"),
+        '\\' => f.write_str("\\\\"),
+        '\0'..='\x1f' | '\x7f'..='\u{9f}' => {
             let code = u32::from(c);
             write!(f, "\\x{code:02x}")
         }
+        _ => f.write_char(c),
     }
 }
 
