@@ -1,4 +1,7 @@
 //! How to write a source of marks of one's own, and code over any source: prints what some sources give.
+
+#![tactic(auto)]
+
 ghost use Rattle.std.specs.Prelude.{◌≡◌, IfOk, ◌≢◌};
 
 mod countdown;

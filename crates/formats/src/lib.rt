@@ -1,6 +1,9 @@
 //! The bytes of a sheet: the places of its texts, what is read where, and why a sheet cannot be read.
 //!
 //! The proofs of this crate are a library too: readers that are made of others, each with the layout that it reads.
+
+#![tactic(auto)]
+
 ghost use Rattle.std.specs.Prelude.{◌≤◌, length};
 
 mod names;

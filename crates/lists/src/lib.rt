@@ -1,4 +1,7 @@
 //! Lists of a few things, held in place, and how a sheet has them: a count, and so many things behind it.
+
+#![tactic(auto)]
+
 ghost use Rattle.std.specs.Prelude.{◌≡◌, ◌≤◌, length};
 
 mod methods;

@@ -1,4 +1,7 @@
 //! The lowering: a run takes members and lowers the class in hand into a record.
+
+#![tactic(auto)]
+
 mod building;
 mod checks;
 mod describing;

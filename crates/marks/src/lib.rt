@@ -1,6 +1,9 @@
 //! Marks: the numbers by which made names are told apart, and the sources that supply them.
 //!
 //! A mark is a whole number from 1 to 65,535. The meaning of a source is the set of marks that are still free.
+
+#![tactic(auto)]
+
 mod counting;
 mod examples;
 mod listing;

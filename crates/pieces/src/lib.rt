@@ -1,4 +1,7 @@
 //! The fields of a member as a sheet has them: its codes, and its texts, each handed out as the part of the sheet that it is.
+
+#![tactic(auto)]
+
 pub mod codes;
 pub mod fields;
 pub mod parts;

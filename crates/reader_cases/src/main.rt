@@ -1,4 +1,7 @@
 //! Replays a table of sheets: prints for each line of the standard input what the reader of sheets answers.
+
+#![tactic(auto)]
+
 mod hex;
 mod table;
 

@@ -1,4 +1,7 @@
 //! How a refusal is told: its number, the layer that refuses, and the place at fault.
+
+#![tactic(auto)]
+
 ghost use Rattle.std.specs.Prelude.{Some};
 ghost use Rattle.refusals.specs.Told.{layer_name, told};
 

@@ -1,6 +1,9 @@
 //! The rules of the lowering: what is made of a class.
 //!
 //! The types are those of the record that a lowering fills. The rules themselves stand in specs/, as definitions.
+
+#![tactic(auto)]
+
 mod describing;
 mod forming;
 mod naming;

@@ -1,4 +1,7 @@
 //! Sheets: the binary description of a class, read into its members.
+
+#![tactic(auto)]
+
 mod class;
 mod member;
 mod opening;

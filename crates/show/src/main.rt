@@ -1,4 +1,7 @@
 //! Reads a sheet from the standard input, and prints the class that it describes, or why it is refused.
+
+#![tactic(auto)]
+
 mod class;
 mod member;
 mod text;
