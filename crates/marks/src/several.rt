@@ -8,10 +8,10 @@ use crate::source::{Exhausted, Marks};
 
 /// Draws a mark for every place of `out`, in order. Where too few are free it draws them all, and says how many.
 pub fn draw_into<S: Marks>(source: &mut S, out: &mut [u16]) -> Result<(), Exhausted>
-    ensures answers { result ≡ report (length out.old) (size (free source.old)) }
-    ensures takes { Takes (free source.old) (take (min (length out.old) (size (free source.old))) out.new) (free source.new) }
-    ensures rest { drop (min (length out.old) (size (free source.old))) out.new ≡ drop (min (length out.old) (size (free source.old))) out.old }
-    ensures steps { Several steps result (take (min (length out.old) (size (free source.old))) out.new) source.old source.new }
+    ensures answers { result ≡ report (length out.old) (size (S.free source.old)) }
+    ensures takes { Takes (S.free source.old) (take (min (length out.old) (size (S.free source.old))) out.new) (S.free source.new) }
+    ensures rest { drop (min (length out.old) (size (S.free source.old))) out.new ≡ drop (min (length out.old) (size (S.free source.old))) out.old }
+    ensures steps { Several S.steps result (take (min (length out.old) (size (S.free source.old))) out.new) source.old source.new }
 {
     for drawn in 0..out.len() {
         match source.draw() {

@@ -8,8 +8,8 @@ all_more : (bs : List ℕ) (i : ℕ) → i < length bs →
     all_in_name (drop i bs) ≡ (in_name (get_or bs i 0) && all_in_name (drop (i + 1) bs))
 all_more bs i h = ap all_in_name (drop_more bs i 0 h)
 
-pub returns-then-not-in-name : goal.returns-then-not-in-name
-returns-then-not-in-name c =
+pub returns-then-not-in_name : goal.returns-then-not-in_name
+returns-then-not-in_name c =
     let step = all_more c.args.bytes.now c.loop-b.b-index (omega arith) in
     grind (arith, nat_tests)
 
