@@ -10,7 +10,7 @@ mod reading;
 pub use reading::{Item, read_list};
 
 /// A list of at most `N` things: the first `len` of `items`, behind which stand fillers.
-#[derive(Clone, Copy)]
+#[derive(Copy)]
 pub struct Bounded<T, const N: usize> {
     items: [T; N],
     len: usize,

@@ -1,8 +1,9 @@
 //! What can be done with a bounded list.
-ghost use Rattle.std.specs.Prelude.{◌≡◌, ◌+◌, ◌<◌, [], ◌∷◌, ◌++◌, length, take};
+ghost use Rattle.std.specs.Prelude.{◌≡◌, ◌+◌, ◌<◌, [], ◌∷◌, ◌++◌, length, take, ⊤};
 ghost use Rattle.lists.specs.Listed.{listed};
 
 use super::Bounded;
+use std::alloc::AllocError;
 
 impl<T: Copy, const N: usize> Bounded<T, N> {
     /// The empty list. In the places that hold nothing stands `filler`.
@@ -52,5 +53,15 @@ impl<T: Copy, const N: usize> Bounded<T, N> {
         let end = self.len;
         let all = &self.items[..];
         &all[0..end]
+    }
+}
+
+impl<T: Copy, const N: usize> Clone for Bounded<T, N> {
+    ghost is_clone = { λ x y. y ≡ x };
+
+    ghost is_infallible = { λ _. ⊤ };
+
+    fn clone(&self) -> Result<Bounded<T, N>, AllocError> {
+        Ok(*self)
     }
 }

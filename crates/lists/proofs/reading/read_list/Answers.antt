@@ -2,8 +2,8 @@ use Rattle.std.proofs.Common.{rules}
 use Rattle.formats.proofs.Items.{items_more}
 use Rattle.lists.proofs.reading.read_list.Goals as goal
 
-pub returns-in-err-item : goal.returns-in-err-item
-returns-in-err-item g c = search (rules, items_more)
+pub returns-in_err-item : goal.returns-in_err-item
+returns-in_err-item g c = search (rules, items_more)
 
 pub loop-i-preserved : goal.loop-i-preserved
 loop-i-preserved g c = search (rules, items_more)

@@ -7,6 +7,6 @@ use Rattle.lists.proofs.reading.read_list.Given as goal
 -- reading on from here, with the items that are left, gives what reading all gives
 abbrev pub invariant-loop-i : goal.invariant-loop-i
 invariant-loop-i g l =
-    let read = g.T-as-Item.reads (bytes_of l.sheet) in
+    let read = g.T.Item.reads (bytes_of l.sheet) in
     (length (listed l.list) ≡ l.i)
     × (items read (l.count - l.i) (listed l.list) l.next ≡ items read l.count [] (l.at + 1))

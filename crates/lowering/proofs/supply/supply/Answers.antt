@@ -13,7 +13,7 @@ returns g c =
     let total = c.count-draws-plan.result.total in
     let lent = length (take (total - 0) c.args.marks.now) in
     let asked : lent ≡ total = rw length-take (omega (arith, plan.few.3, c.requires.room)) in
-    let drawn = c.in-ok-draw-into.ensures in
+    let drawn = c.in_ok-draw-into.ensures in
     let small : n ≤ 65535 = omega arith in
     let fit = numbers_fit n 0 (seen_hand c.args.hand.now) small in
     record {
