@@ -1,7 +1,7 @@
 -- Counted lists and blocks, each with its layout. Assumes nothing.
-use Rattle.std.proofs.Common.{◌≡◌, ℕ, zero, suc, ◌+◌, ◌<◌, ◌≤◌, Bool, true, false, cond, leb, List, [], ◌∷◌, ◌++◌, map, length, Ok, Err, Result, sym, refl, ap, ◌∙◌, subst, ap₂, subst₂, arith}
+use Rattle.std.proofs.Common.{◌≡◌, ℕ, zero, suc, ◌+◌, ◌≤◌, cond, leb, List, [], ◌∷◌, ◌++◌, map, length, Ok, Err, Result, sym, refl, ap, ◌∙◌, subst, ap₂, subst₂, arith}
 use Rattle.std.specs.List.{flat_map, AllByRecursion as All}
-use Rattle.std.proofs.lemmas.List.{append-nil, append_assoc, length-map}
+use Rattle.std.proofs.lemmas.List.{append-nil, append_assoc}
 use Rattle.std.proofs.lemmas.Bool.{le-leb, leb-true}
 use Rattle.formats.specs.declared.Place.{Place}
 use Rattle.formats.specs.Reading.{end, bytes_at}
@@ -9,7 +9,7 @@ use Rattle.formats.specs.Readers.{then}
 use Rattle.formats.specs.Readers.{items}
 use Rattle.formats.specs.Bytes.{word, text, list_of, Short}
 use Rattle.formats.proofs.Laid.{Laid, laid_nil, laid_append, laid_split, part_laid}
-use Rattle.formats.proofs.Formats.{Small, Room, Stands, Found, Reads, UpTo, Just, went, same_ok, field, guard, whole, said}
+use Rattle.formats.proofs.Formats.{Small, Room, Stands, Reads, UpTo, Just, went, same_ok, field, guard, whole}
 
 module _ {X D F : Type 0} (s : List ℕ) (last : ℕ) (read : ℕ → Result (X × ℕ) F) (view : X → D) (print : D → List ℕ) (keeps : D → Type 0) where
   record ItemsStand (i n : ℕ) (have : List X) (y : List X × ℕ) : Type 0 where

@@ -1,6 +1,6 @@
 -- Bytes, words, texts and codes, each with its layout. Assumes nothing.
-use Rattle.std.proofs.Common.{◌≡◌, ℕ, ◌+◌, ◌-◌, ◌*◌, ◌/◌, ◌%◌, ◌<◌, ◌≤◌, Bool, true, false, cond, ltb, leb, List, [], ◌∷◌, ◌++◌, length, get_or, take, drop, Ok, Err, Result, sym, refl, ap, ◌∙◌, subst, ap₂, arith}
-use Rattle.std.specs.List.{AllByRecursion as All, between}
+use Rattle.std.proofs.Common.{◌≡◌, ℕ, ◌+◌, ◌*◌, ◌/◌, ◌%◌, ◌<◌, ◌≤◌, cond, leb, List, [], ◌∷◌, length, get_or, take, Ok, Err, Result, sym, refl, ap, ◌∙◌, subst, ap₂, arith}
+use Rattle.std.specs.List.{between}
 use Rattle.std.proofs.ByRecursion.{All-get_or}
 use Rattle.std.proofs.lemmas.List.Edits.{length-between}
 use Rattle.std.proofs.lemmas.Bool.{lt-ltb, le-leb, leb-true}
@@ -12,7 +12,7 @@ use Rattle.formats.specs.Reading.{end, bytes_at, byte_at, text_at}
 use Rattle.formats.specs.Readers.{then}
 use Rattle.formats.specs.Bytes.{word, text, Short}
 use Rattle.formats.proofs.Laid.{Laid, laid_nil, laid_append, laid_split, laid_byte, byte_laid, laid_part, part_laid}
-use Rattle.formats.proofs.Formats.{Room, Stands, Found, Reads, UpTo, went, same_ok, field, final, guard, whole, said, windowed}
+use Rattle.formats.proofs.Formats.{Room, Stands, Reads, UpTo, same_ok, field, guard, whole, said, windowed}
 use Rattle.formats.proofs.Windows.{byte_to, word_to, text_to, byte_window, text_window}
 
 byte_inside : (s : List ℕ) (last i y : ℕ) → byte_to s i last ≡ Ok y → i < last

@@ -1,5 +1,5 @@
 -- One draw more at the end of a chain.
-use Rattle.std.proofs.Common.{◌≡◌, ℕ, ◌+◌, ◌<◌, List, [], ◌∷◌, ◌++◌, length, take, set, Ok, Result, sym, refl, subst}
+use Rattle.std.proofs.Common.{ℕ, ◌+◌, ◌<◌, List, [], ◌∷◌, ◌++◌, length, take, set, Ok, Result, sym, refl, subst}
 use Rattle.std.proofs.lemmas.List.{take_more_set}
 use Rattle.marks.specs.declared.source.Exhausted.{Exhausted}
 use Rattle.marks.specs.Chains.{Drawn}

@@ -1,13 +1,11 @@
 -- The texts of a member that is read lie inside of its sheet. Assumes nothing.
-use Rattle.std.proofs.Common.{◌≡◌, ℕ, ◌+◌, ◌≤◌, Bool, true, false, cond, List, length, Ok, Err, Result, sym, refl, ap, ◌∙◌, subst, arith}
-use Rattle.formats.specs.declared.Place.{Place}
+use Rattle.std.proofs.Common.{◌≡◌, ℕ, ◌+◌, ◌≤◌, Bool, true, false, cond, List, length, Ok, Result, subst, arith}
 use Rattle.formats.specs.declared.ReadFault.{ReadFault}
 use Rattle.formats.specs.declared.ReadFault.TheVariants.{Spare}
 use Rattle.formats.specs.Readers.{then}
 use Rattle.formats.specs.Reading.{end, byte_at}
 use Rattle.formats.proofs.Formats.{went, same_ok, not_refused}
 use Rattle.lists.specs.Listed.{counted}
-use Rattle.pieces.specs.declared.codes.Kind.{Kind}
 use Rattle.pieces.specs.Codes.{kind_of, flags_of, key_kind_of}
 use Rattle.pieces.specs.Items.{decorator_at, parameter_at}
 use Rattle.pieces.specs.Parts.{piece_at, place_of, key, body, names_key}

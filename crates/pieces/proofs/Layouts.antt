@@ -1,12 +1,11 @@
 -- The fields of a member and their layout. Assumes nothing.
-use Rattle.std.proofs.Common.{◌≡◌, ℕ, ◌+◌, ◌≤◌, Bool, true, false, cond, ltb, List, [], ◌∷◌, ◌++◌, map, length, take, Ok, Err, Result, sym, refl, ap, ◌∙◌, subst, ap₂, arith, rules}
+use Rattle.std.proofs.Common.{◌≡◌, ℕ, ◌+◌, ◌≤◌, Bool, true, false, cond, ltb, List, [], ◌++◌, take, Ok, Err, Result, sym, refl, ap, ◌∙◌, subst, ap₂, arith, rules}
 use Rattle.std.proofs.lemmas.Bool.{true≢false, false≢true}
-use Rattle.formats.specs.declared.Place.{Place}
 use Rattle.formats.specs.declared.ReadFault.{ReadFault}
 use Rattle.formats.specs.declared.ReadFault.TheVariants.{Spare}
 use Rattle.formats.specs.Bytes.{text, Short}
 use Rattle.formats.specs.Readers.{then}
-use Rattle.formats.specs.Reading.{end, bytes_at}
+use Rattle.formats.specs.Reading.{end}
 use Rattle.formats.proofs.Formats.{Reads, UpTo, Just, done, field, final, closing, whole, said, windowed}
 use Rattle.formats.proofs.Parts.{coded}
 use Rattle.formats.proofs.Windows.{length_window}
@@ -20,7 +19,7 @@ use Rattle.pieces.proofs.Inverses.{kinds, flags, flagged_code, keys}
 use Rattle.pieces.proofs.Texts.{Makes, piece_reads, decorators_reads, parameters_reads}
 use Rattle.pieces.specs.declared.parts.Body.{Body}
 use Rattle.pieces.specs.declared.parts.Body.TheVariants.{Text, Constructor}
-use Rattle.pieces.specs.Described.{HeadText, BodyText, one_text, head_and_tail, MemberText}
+use Rattle.pieces.specs.Described.{HeadText, BodyText, one_text, head_and_tail}
 use Rattle.pieces.specs.Fields.{Fields, head_at, body_at, fields_at}
 use Rattle.pieces.specs.Kept.{KeptText, KeptHead, KeptBody, KeptFields}
 use Rattle.pieces.specs.Layout.{head_bytes, body_bytes, rest_bytes}

@@ -1,5 +1,5 @@
 -- The texts, decorators and parameters of a member, each with its layout. Assumes nothing.
-use Rattle.std.proofs.Common.{◌≡◌, ℕ, ◌+◌, ◌≤◌, Bool, true, false, cond, not, ◌||◌, List, [], ◌∷◌, map, length, take, Ok, Err, Result, sym, refl, ap, ◌∙◌, subst, arith, rules}
+use Rattle.std.proofs.Common.{◌≡◌, ℕ, ◌+◌, ◌≤◌, Bool, true, false, not, ◌||◌, List, map, length, take, Ok, sym, refl, ap, ◌∙◌, subst, arith, rules}
 use Rattle.std.specs.List.{AllByRecursion as All}
 use Rattle.formats.specs.declared.Place.{Place}
 use Rattle.formats.specs.declared.ReadFault.TheVariants.{NoName, Unknown}
@@ -12,7 +12,6 @@ use Rattle.formats.proofs.Lists.{list_reads}
 use Rattle.formats.proofs.Windows.{bytes_window}
 use Rattle.lists.specs.Listed.{counted}
 use Rattle.pieces.specs.Codes.{shape_of, shape_code, form_of, form_code}
-use Rattle.pieces.specs.Described.{DecoratorText, ParameterText}
 use Rattle.pieces.specs.Kept.{KeptText, KeptDecorator, KeptParameter}
 use Rattle.pieces.specs.Layout.{decorator_bytes, parameter_bytes}
 use Rattle.pieces.specs.Shown.{shown_decorator, shown_parameter}

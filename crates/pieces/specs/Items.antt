@@ -1,5 +1,5 @@
 -- Decorators and parameters as a sheet has them: a code, and a text.
-use Rattle.std.specs.Prelude.{ℕ, ◌+◌, List, Ok, Err, Result}
+use Rattle.std.specs.Prelude.{ℕ, ◌+◌, List, Ok}
 use Rattle.formats.specs.Readers.{then}
 use Rattle.formats.specs.Reading.{end, byte_at}
 use Rattle.lists.specs.Listed.{Reader}

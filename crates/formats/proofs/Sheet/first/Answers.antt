@@ -1,4 +1,4 @@
-use Rattle.std.proofs.Common.{arith, rules}
+use Rattle.std.proofs.Common.{arith}
 use Rattle.formats.proofs.Windows.{taken}
 use Rattle.formats.proofs.Sheet.first.Goals as goal
 

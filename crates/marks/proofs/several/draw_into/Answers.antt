@@ -1,4 +1,4 @@
-use Rattle.std.proofs.Common.{◌<◌, length, take, Ok, Err, subst, arith}
+use Rattle.std.proofs.Common.{length, take, Ok, Err, subst, arith}
 use Rattle.marks.specs.Chains.{Drawn, Several}
 use Rattle.marks.proofs.Chains.{drawn_set}
 use Rattle.marks.proofs.Taking.{takes_set, rest_set, filled, stopped}
