@@ -1,9 +1,9 @@
 -- Whether fields make a member, in the words of what they describe. Assumes nothing.
-use Rattle.std.proofs.Common.{◌≡◌, ℕ, ◌+◌, ◌-◌, ◌≤◌, Bool, true, false, cond, ◌&&◌, eqb, List, [], ◌∷◌, map, length, take, is_some, Some, None, Ok, Err, Option, Result, sym, refl, ap, ◌∙◌, subst, ap₂, arith}
+use Rattle.std.proofs.Common.{◌≡◌, ℕ, ◌≤◌, Bool, true, false, cond, eqb, List, [], ◌∷◌, map, length, is_some, Some, None, Ok, Err, Option, sym, refl, ap, ◌∙◌, subst, ap₂, arith}
 use Rattle.std.specs.List.{between}
 use Rattle.std.proofs.lemmas.List.Edits.{length-between, between_none}
 use Rattle.std.proofs.lemmas.List.{length-map}
-use Rattle.std.proofs.lemmas.Bool.{true≢false, false≢true, eq-eqb, eqb-true, and_from, and_parts}
+use Rattle.std.proofs.lemmas.Bool.{true≢false, eq-eqb, eqb-true, and_from, and_parts}
 use Rattle.formats.specs.declared.Place.{Place}
 use Rattle.formats.specs.Readers.{then}
 use Rattle.formats.specs.Reading.{end, bytes_at}
@@ -11,18 +11,17 @@ use Rattle.formats.proofs.Formats.{went, same_ok}
 use Rattle.pieces.specs.declared.codes.Kind.{Kind}
 use Rattle.pieces.specs.declared.parts.Parameter.{Parameter}
 use Rattle.pieces.specs.Bodies.{is_constructor}
-use Rattle.pieces.specs.Described.{ParameterText, BodyText, one_text, head_and_tail, MemberText}
+use Rattle.pieces.specs.Described.{ParameterText, one_text, head_and_tail}
 use Rattle.pieces.specs.Fields.{Fields}
 use Rattle.pieces.specs.Kept.{KeptBody, KeptFields}
 use Rattle.pieces.specs.Shown.{shown_decorator, shown_parameter, shown_body, shown_fields}
 use Rattle.pieces.proofs.Inside.{BodyInside}
 use Rattle.pieces.specs.declared.parts.Body.{Body}
 use Rattle.pieces.specs.declared.parts.Body.TheVariants.{Text, Constructor}
-use Rattle.sheet.specs.declared.refusal.MemberFault.{MemberFault}
 use Rattle.sheet.specs.declared.refusal.MemberFault.TheVariants.{BrokenRule, SetterParameter}
 use Rattle.sheet.specs.Kept.{KeptRules, Blank, outlined}
 use Rattle.sheet.specs.Members.{is_blank, body_of, ruled, member_of}
-use Rattle.sheet.specs.Rules.{Outline, begins_plain, lawful, settable}
+use Rattle.sheet.specs.Rules.{begins_plain, lawful, settable}
 use Rattle.sheet.specs.Seen.{Seen, outline}
 use Rattle.sheet.specs.Shown.{shown_option, shown_member}
 

@@ -1,15 +1,15 @@
 -- A whole sheet and its layout. Assumes nothing.
-use Rattle.std.proofs.Common.{◌≡◌, ℕ, ◌+◌, ◌<◌, ◌≤◌, Bool, true, false, cond, not, ◌&&◌, eqb, ltb, leb, List, [], ◌∷◌, ◌++◌, map, length, take, Some, None, Ok, Err, Option, Result, sym, refl, ap, ◌∙◌, subst, ap₂, arith}
-use Rattle.std.specs.List.{flat_map, AllByRecursion as All}
+use Rattle.std.proofs.Common.{◌≡◌, ℕ, ◌+◌, ◌≤◌, Bool, true, false, cond, not, eqb, ltb, leb, List, [], ◌∷◌, ◌++◌, length, take, Some, None, Ok, Err, Option, Result, sym, refl, ap, ◌∙◌, subst, arith}
+use Rattle.std.specs.List.{flat_map}
 use Rattle.std.proofs.lemmas.List.{append_assoc, take_all, length-take}
 use Rattle.std.proofs.lemmas.Bool.{eq-eqb, eqb-true, le-leb, leb-true, le-ltb, ltb-false, and_parts}
 use Rattle.formats.specs.declared.Place.{Place}
 use Rattle.formats.specs.declared.ReadFault.TheVariants.{Version, Unknown, NoName, Spare}
-use Rattle.formats.specs.Bytes.{text, list_of, Short}
+use Rattle.formats.specs.Bytes.{text, Short}
 use Rattle.formats.specs.Names.{is_name, is_digit, all_in_name}
-use Rattle.formats.specs.Readers.{then, faulted}
-use Rattle.formats.specs.Reading.{end, bytes_at, text_at}
-use Rattle.formats.proofs.Formats.{Small, Room, Reads, UpTo, Just, same_ok, not_refused, was_ok, done, field, final, guard, attempt, closing, whole, said, layered, room_all}
+use Rattle.formats.specs.Readers.{faulted}
+use Rattle.formats.specs.Reading.{end, bytes_at}
+use Rattle.formats.proofs.Formats.{Small, Reads, UpTo, Just, same_ok, was_ok, done, field, final, guard, attempt, closing, whole, said, layered, room_all}
 use Rattle.formats.proofs.Laid.{Laid, laid_all, all_laid}
 use Rattle.formats.proofs.Lists.{items_reads, block}
 use Rattle.formats.proofs.Parts.{byte, text_reads, text_start}
@@ -23,7 +23,7 @@ use Rattle.sheet.specs.declared.refusal.Refusal.{Refusal}
 use Rattle.sheet.specs.Claims.{AcceptedIsLaidOut, AnsweredAs, LaidOutIsRead}
 use Rattle.sheet.specs.Classes.{SeenClass, class_at, sheet_at, seen_class, seen_sheet, Answers}
 use Rattle.sheet.specs.Described.{ClassText}
-use Rattle.sheet.specs.Kept.{KeptRules, KeptMember, KeptParts, KeptClass}
+use Rattle.sheet.specs.Kept.{KeptRules, KeptMember, KeptParts}
 use Rattle.sheet.specs.Layout.{member_bytes, class_bytes}
 use Rattle.sheet.specs.Members.{member_of, member_at}
 use Rattle.sheet.specs.Opening.{opening_at, superclass_of}

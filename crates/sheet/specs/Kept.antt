@@ -1,5 +1,5 @@
 -- The limits and rules that everything in a sheet keeps.
-use Rattle.std.specs.Prelude.{◌≡◌, ℕ, ◌≤◌, true, false, length}
+use Rattle.std.specs.Prelude.{◌≡◌, ◌≤◌, true, false, length}
 use Rattle.std.specs.List.{AllByRecursion as All}
 use Rattle.formats.specs.Bytes.{Short}
 use Rattle.formats.specs.Names.{is_name}

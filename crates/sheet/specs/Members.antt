@@ -1,5 +1,5 @@
 -- A member as a sheet has it.
-use Rattle.std.specs.Prelude.{ℕ, Bool, true, false, cond, not, ◌&&◌, ◌||◌, List, length, take, Some, None, Ok, Err, Option, Result, ◌==◌}
+use Rattle.std.specs.Prelude.{ℕ, Bool, true, false, cond, ◌&&◌, List, take, Some, None, Ok, Err, Option, Result, ◌==◌}
 use Rattle.formats.specs.Readers.{then, faulted}
 use Rattle.formats.specs.Reading.{end, text_at}
 use Rattle.pieces.specs.declared.parts.Body.{Body}

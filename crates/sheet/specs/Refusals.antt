@@ -1,10 +1,9 @@
 -- What every refusal is told as: its number, its layer and its place.
-use Rattle.std.specs.Prelude.{ℕ, Some, None, Ok, Err, Option, Result}
+use Rattle.std.specs.Prelude.{Some, None, Option}
 use Rattle.formats.specs.declared.ReadFault.{ReadFault}
 use Rattle.formats.specs.declared.ReadFault.TheVariants.{Version, CutShort, Spare, Unknown, NoName}
 use Rattle.sheet.specs.declared.refusal.MemberFault.{MemberFault}
 use Rattle.sheet.specs.declared.refusal.MemberFault.TheVariants.{BrokenRule, SetterParameter}
-use Rattle.refusals.specs.declared.Layer.{Layer}
 use Rattle.refusals.specs.declared.Layer.TheVariants as layers
 use Rattle.refusals.specs.declared.Numbered.{Numbered}
 use Rattle.sheet.specs.declared.refusal.Refusal.{Refusal}

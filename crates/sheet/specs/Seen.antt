@@ -1,5 +1,5 @@
 -- The parts of a member, with lists in the place of arrays.
-use Rattle.std.specs.Prelude.{ℕ, List, length, is_some, Option}
+use Rattle.std.specs.Prelude.{List, length, is_some, Option}
 use Rattle.lists.specs.Listed.{listed}
 use Rattle.pieces.specs.declared.codes.Kind.{Kind}
 use Rattle.pieces.specs.declared.codes.Flags.{Flags}

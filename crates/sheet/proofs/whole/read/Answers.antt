@@ -7,9 +7,9 @@ use Rattle.sheet.proofs.whole.read.Goals as goal
 pub returns : goal.returns
 returns c =
     let s = c.args.bytes.now in
-    let small = All-from_get_or (λ b. b < 256) s 0 (λ i h. omega (arith, c.type-inv.bytes i)) in
+    let small = All-from_get_or (λ b. b < 256) s 0 (λ i h. omega (arith, c.type_inv.bytes i)) in
     record {
-      sound = accepted_is_laid_out (Opened s) s c.read-bytes.result small c.read-bytes.ensures;
-      complete = laid_out_is_read (Opened s) s c.read-bytes.result c.read-bytes.ensures;
-      answer = c.read-bytes.ensures;
+      sound = accepted_is_laid_out (Opened s) s c.read_bytes.result small c.read_bytes.ensures;
+      complete = laid_out_is_read (Opened s) s c.read_bytes.result c.read_bytes.ensures;
+      answer = c.read_bytes.ensures;
     }
