@@ -1,6 +1,6 @@
 -- A reader and its layout. Assumes nothing.
 use Rattle.std.proofs.Common.{◌≡◌, ℕ, ◌+◌, ◌<◌, ◌≤◌, Bool, true, false, cond, ltb, List, [], ◌++◌, length, Ok, Err, Result, sym, refl, ap, ◌∙◌, subst, arith}
-use Rattle.std.specs.List.{AllByRecursion as All}
+use Rattle.std.specs.List.{AllByRecursion}
 use Rattle.formats.specs.Readers.{then}
 use Rattle.std.proofs.lemmas.List.{append-nil}
 use Rattle.std.proofs.lemmas.Bool.{true≢false, false≢true, ltb-false, le-ltb}
@@ -8,7 +8,7 @@ use Rattle.formats.specs.Readers.{faulted}
 use Rattle.formats.proofs.Laid.{Laid, laid_nil, laid_append, laid_split}
 
 abbrev pub Small : List ℕ → Type 0
-Small s = All (λ b. b < 256) s
+Small s = AllByRecursion (λ b. b < 256) s
 
 -- a field that ends before `last` is read from `i` on
 pub record Room (s : List ℕ) (last i : ℕ) : Type 0 where

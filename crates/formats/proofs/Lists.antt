@@ -1,6 +1,6 @@
 -- Counted lists and blocks, each with its layout. Assumes nothing.
 use Rattle.std.proofs.Common.{◌≡◌, ℕ, zero, suc, ◌+◌, ◌≤◌, cond, leb, List, [], ◌∷◌, ◌++◌, map, length, Ok, Err, Result, sym, refl, ap, ◌∙◌, subst, ap₂, subst₂, arith}
-use Rattle.std.specs.List.{flat_map, AllByRecursion as All}
+use Rattle.std.specs.List.{flat_map, AllByRecursion}
 use Rattle.std.proofs.lemmas.List.{append-nil, append_assoc}
 use Rattle.std.proofs.lemmas.Bool.{le-leb, leb-true}
 use Rattle.formats.specs.declared.Place.{Place}
@@ -18,7 +18,7 @@ module _ {X D F : Type 0} (s : List ℕ) (last : ℕ) (read : ℕ → Result (X 
     laid : Laid s i y.1 (flat_map print (map view new))
     inside : y.1 ≤ last
     count : length (map view new) ≡ n
-    kept : All keeps (map view new)
+    kept : AllByRecursion keeps (map view new)
 
   record ItemsFound (i j n : ℕ) (have : List X) (ds : List D) : Type 0 where
     new : List X
@@ -47,7 +47,7 @@ module _ {X D F : Type 0} (s : List ℕ) (last : ℕ) (read : ℕ → Result (X 
         kept = (one.kept, two.kept);
       }
 
-  items_complete : Each → last ≤ length s → (n i j : ℕ) (have : List X) (ds : List D) → length ds ≡ n → All keeps ds →
+  items_complete : Each → last ≤ length s → (n i j : ℕ) (have : List X) (ds : List D) → length ds ≡ n → AllByRecursion keeps ds →
       Laid s i j (flat_map print ds) → j ≤ last → ItemsFound i j n have ds
   items_complete each inside zero i j have [] size kept laid m =
       let same : i ≡ j = omega (arith, laid.size) in
@@ -68,7 +68,7 @@ module _ {X D F : Type 0} (s : List ℕ) (last : ℕ) (read : ℕ → Result (X 
       }
 
   abbrev pub Few : ℕ → List D → Type 0
-  Few most ds = (length ds ≤ most) × All keeps ds
+  Few most ds = (length ds ≤ most) × AllByRecursion keeps ds
 
   pub items_reads : Each → (most n i : ℕ) → n ≤ most →
       Reads s last i (UpTo last) (items read n [] i) (λ y. y.1) (λ y. map view y.0) (flat_map print)

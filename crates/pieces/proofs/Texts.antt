@@ -1,6 +1,6 @@
 -- The texts, decorators and parameters of a member, each with its layout. Assumes nothing.
 use Rattle.std.proofs.Common.{◌≡◌, ℕ, ◌+◌, ◌≤◌, Bool, true, false, not, ◌||◌, List, map, length, take, Ok, sym, refl, ap, ◌∙◌, subst, arith, rules}
-use Rattle.std.specs.List.{AllByRecursion as All}
+use Rattle.std.specs.List.{AllByRecursion}
 use Rattle.formats.specs.declared.Place.{Place}
 use Rattle.formats.specs.declared.ReadFault.TheVariants.{NoName, Unknown}
 use Rattle.formats.specs.Bytes.{text, list_of}
@@ -88,14 +88,14 @@ module _ (s w : List ℕ) (last : ℕ) (is : w ≡ take last s) where
 
   pub decorators_reads : (most i : ℕ) →
       Reads s last i (UpTo last) (counted most (decorator_at w) w i) (λ y. y.1) (λ y. map (shown_decorator s) y.0)
-      (list_of decorator_bytes) (λ ds. (length ds ≤ most) × All KeptDecorator ds)
+      (list_of decorator_bytes) (λ ds. (length ds ≤ most) × AllByRecursion KeptDecorator ds)
   decorators_reads most i =
       list_reads s last (decorator_at w) (shown_decorator s) decorator_bytes KeptDecorator decorator_reads most i (Unknown i)
       (byte s w last i (i + 1) is refl)
 
   pub parameters_reads : (most i : ℕ) →
       Reads s last i (UpTo last) (counted most (parameter_at w) w i) (λ y. y.1) (λ y. map (shown_parameter s) y.0)
-      (list_of parameter_bytes) (λ ds. (length ds ≤ most) × All KeptParameter ds)
+      (list_of parameter_bytes) (λ ds. (length ds ≤ most) × AllByRecursion KeptParameter ds)
   parameters_reads most i =
       list_reads s last (parameter_at w) (shown_parameter s) parameter_bytes KeptParameter parameter_reads most i (Unknown i)
       (byte s w last i (i + 1) is refl)

@@ -1,6 +1,6 @@
 -- The limits that the fields of a member keep.
 use Rattle.std.specs.Prelude.{◌≡◌, ℕ, ◌≤◌, Bool, true, false, List, length}
-use Rattle.std.specs.List.{AllByRecursion as All}
+use Rattle.std.specs.List.{AllByRecursion}
 use Rattle.formats.specs.Bytes.{Short}
 use Rattle.formats.specs.Names.{is_name}
 use Rattle.pieces.specs.Bodies.{is_constructor}
@@ -29,7 +29,7 @@ KeptBody constructor (head_and_tail head tail) = (constructor ≡ true) × Short
 pub record KeptFields (m : MemberText) : Type 0 where
   pub head : KeptHead m.head
   pub few_decorators : length m.decorators ≤ 8
-  pub decorators : All KeptDecorator m.decorators
+  pub decorators : AllByRecursion KeptDecorator m.decorators
   pub few_parameters : length m.parameters ≤ 16
-  pub parameters : All KeptParameter m.parameters
+  pub parameters : AllByRecursion KeptParameter m.parameters
   pub body : KeptBody (is_constructor m.head.kind) m.body

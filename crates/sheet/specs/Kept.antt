@@ -1,6 +1,6 @@
 -- The limits and rules that everything in a sheet keeps.
 use Rattle.std.specs.Prelude.{◌≡◌, ◌≤◌, true, false, length}
-use Rattle.std.specs.List.{AllByRecursion as All}
+use Rattle.std.specs.List.{AllByRecursion}
 use Rattle.formats.specs.Bytes.{Short}
 use Rattle.formats.specs.Names.{is_name}
 use Rattle.pieces.specs.Described.{BodyText, one_text, head_and_tail, MemberText}
@@ -41,7 +41,7 @@ pub record KeptParts (c : ClassText) : Type 0 where
   pub name : is_name c.name ≡ true
   pub superclass : Short c.superclass
   pub few_members : length c.members ≤ 64
-  pub members : All KeptMember c.members
+  pub members : AllByRecursion KeptMember c.members
 
 pub record KeptClass (c : ClassText) : Type 0 where
   pub parts : KeptParts c

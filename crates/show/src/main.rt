@@ -11,6 +11,7 @@ use formats::MOST_BYTES;
 use sheet::{Refusal, Sheet};
 use std::io;
 use std::io::{ErrorKind, Read};
+use std::process::ExitCode;
 
 /// No more of the input is read than this: with one byte over its limit a sheet is refused, whatever follows.
 const MOST_INPUT: usize = MOST_BYTES + 1;
@@ -61,10 +62,13 @@ fn run(rt: &HostRuntime) -> Result<(), Failure> {
     }
 }
 
-fn main(rt: HostRuntime) -> Result<(), Failure> {
-    let result = run(&rt);
-    if let Err(Failure::System(error)) = &result {
-        let _ = eprintln!(rt; "show: {error}");
+fn main(rt: HostRuntime) -> ExitCode {
+    match run(&rt) {
+        Ok(()) => ExitCode::SUCCESS,
+        Err(Failure::Refused) => ExitCode::FAILURE,
+        Err(Failure::System(error)) => {
+            let _ = eprintln!(rt; "show: {error}");
+            ExitCode::FAILURE
+        }
     }
-    result
 }
