@@ -22,11 +22,11 @@ pub(crate) fn supply<S: Marks>(
 ) -> Result<Plan, LowerFault>
     requires few { length hand.now ≤ 64 }
     requires room { length marks.old ≡ 1089 }
-    ensures answer { answer_of result ≡ supplied derived numbers.old.storage (free source.old) (seen_hand hand.now) }
+    ensures answer { answer_of result ≡ supplied derived numbers.old.storage (S.free source.old) (seen_hand hand.now) }
     ensures plan { IfOk result (λ p. Planned derived (seen_hand hand.now) p) }
     ensures storage { numbers.new.storage ≡ (if is_ok result then numbers.old.storage + count_by accessor (seen_hand hand.now) else numbers.old.storage) }
     ensures fits { OnOk result (numbers.old.storage + count_by accessor (seen_hand hand.now) ≤ 65535) }
-    ensures drawn { Supplied free steps result marks.new source.old source.new }
+    ensures drawn { Supplied S.free S.steps result marks.new source.old source.new }
 {
     check_constructors(hand, derived)?;
     let before = numbers.last();

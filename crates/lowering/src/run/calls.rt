@@ -53,8 +53,8 @@ impl<S: Marks> Run<S> {
     /// Lowers the class in hand into the record, which is emptied first, and empties the class. Refused, it leaves class and
     /// storage number as they were and the record empty.
     pub fn lower(&mut self, derived: bool, out: &mut Record) -> Result<(), LowerFault>
-        ensures answer { result ≡ supplied derived (state_of self.old).storage (free self.old.source) (seen_in (state_of self.old)) }
-        ensures lowers { Lowers free steps derived (state_of self.old) result (state_of self.new) (record_of out.new) }
+        ensures answer { result ≡ supplied derived (state_of self.old).storage (S.free self.old.source) (seen_in (state_of self.old)) }
+        ensures lowers { Lowers S.free S.steps derived (state_of self.old) result (state_of self.new) (record_of out.new) }
     {
         out.clear();
         let mut marks = [0; MOST_MARKS];

@@ -10,11 +10,11 @@ use Rattle.lowering.proofs.Checking.{order_more}
 use Rattle.lowering.proofs.checks.check_constructors.Goals as goal
 use Rattle.lowering.proofs.checks.check_constructors.Goals.{then-second, else-second}
 
-pub returns-then-is-out-of-order : goal.returns-then-is-out-of-order
-returns-then-is-out-of-order c =
+pub returns-then-is_out_of_order : goal.returns-then-is_out_of_order
+returns-then-is_out_of_order c =
     let m = seen_parts c.parts-parts.result.now in
     let found = order_more c.args.hand.now c.loop-member.member c.index-hand-member.result m c.loop-member-test.true
-    c.index-hand-member.is c.parts-parts.ensures c.args.derived c.loop-member.second true c.if-is-out-of-order.ensures in
+    c.index-hand-member.is c.parts-parts.ensures c.args.derived c.loop-member.second true c.if-is_out_of_order.ensures in
     ap (unless Constructor) (sym found ∙ c.loop-member.invariant)
 
 pub loop-member-preserved : goal.loop-member-preserved
@@ -23,10 +23,10 @@ loop-member-preserved c =
     let i = c.loop-member.member in
     let m = seen_parts c.parts-parts.result.now in
     let more = order_more c.args.hand.now i c.index-hand-member.result m c.loop-member-test.true
-    c.index-hand-member.is c.parts-parts.ensures c.args.derived second false c.if-is-out-of-order.ensures in
+    c.index-hand-member.is c.parts-parts.ensures c.args.derived second false c.if-is_out_of_order.ensures in
     let after : c.if-second.second ≡ second || built m = elim c.if-second.branch [
       | then-second w ↦ w.second-is ∙ (w.if-second.true ∙ ap (λ b. b || built m) (sym w.if-second.true))
-      | else-second w ↦ w.second-is ∙ (w.is-built-second.ensures ∙ ap (λ b. b || built m) (sym w.if-second.false))
+      | else-second w ↦ w.second-is ∙ (w.is_built-second.ensures ∙ ap (λ b. b || built m) (sym w.if-second.false))
     ] in
     ap (λ b. first_out_of_order c.args.derived b (i + 1) (seen_hand (drop (i + 1) c.args.hand.now))) after ∙ (sym more ∙ c.loop-member.invariant)
 

@@ -9,7 +9,7 @@ use Rattle.lowering.specs.Checks.{unless}
 use Rattle.lowering.specs.Hands.{seen_hand}
 use Rattle.lowering.proofs.Checking.{number_more, accessors_more}
 use Rattle.lowering.proofs.checks.number_accessors.Goals as goal
-use Rattle.lowering.proofs.checks.number_accessors.Goals.{then-is-accessor+else-numbers, else-is-accessor}
+use Rattle.lowering.proofs.checks.number_accessors.Goals.{then-is_accessor+else-numbers, else-is_accessor}
 
 pub returns-then-numbers : goal.returns-then-numbers
 returns-then-numbers c =
@@ -17,7 +17,7 @@ returns-then-numbers c =
     let i = c.loop-member.member in
     let m = seen_parts c.parts.result.now in
     let more = number_more hs i c.index-hand-member.result m c.loop-member-test.true c.index-hand-member.is c.parts.ensures
-    c.loop-member.numbers.storage true c.if-is-accessor.ensures in
+    c.loop-member.numbers.storage true c.if-is_accessor.ensures in
     let full = ap (λ n. cond (leb 65535 n) (Some i) (first_unnumbered (n + 1) (i + 1) (seen_hand (drop (i + 1) hs)))) c.if-numbers.true in
     record { is = ap (unless StorageNumber) (sym full ∙ (sym more ∙ c.loop-member.invariant.0)); storage = tt }
 
@@ -31,15 +31,15 @@ loop-member-preserved c =
     let rest = number_more hs i c.index-hand-member.result m c.loop-member-test.true c.index-hand-member.is c.parts.ensures n in
     let count = accessors_more hs i c.index-hand-member.result m c.loop-member-test.true c.index-hand-member.is c.parts.ensures in
     let inv = c.loop-member.invariant in
-    elim c.if-is-accessor.branch [
-      | then-is-accessor+else-numbers w ↦
-          let counts = w.if-is-accessor.ensures in
+    elim c.if-is_accessor.branch [
+      | then-is_accessor+else-numbers w ↦
+          let counts = w.if-is_accessor.ensures in
           let raised = ap (λ x. x.storage) w.numbers-is in
           let room : n < 65535 = omega (arith, w.if-numbers.false) in
           let more = rest true counts ∙ ap (λ b. cond b (Some i) (first_unnumbered (n + 1) (i + 1) left)) (lt-leb 65535 n room) in
           (ap (λ k. first_unnumbered k (i + 1) left) raised ∙ (sym more ∙ inv.0), omega (arith, raised, count true counts, inv.1))
-      | else-is-accessor w ↦
-          let counts = w.if-is-accessor.ensures in
+      | else-is_accessor w ↦
+          let counts = w.if-is_accessor.ensures in
           let kept = ap (λ x. x.storage) w.numbers-is in
           (ap (λ k. first_unnumbered k (i + 1) left) kept ∙ (sym (rest false counts) ∙ inv.0), omega (arith, kept, count false counts, inv.1))
     ]

@@ -5,23 +5,23 @@ use Rattle.lowering.specs.Rows.{rows_of}
 use Rattle.lowering.proofs.Described.{groups_few, described_in_order}
 use Rattle.lowering.proofs.describing.describe_all.Goals as goal
 
-pub describe-group-requires : goal.describe-group-requires
-describe-group-requires c =
+pub describe_group-requires : goal.describe_group-requires
+describe_group-requires c =
     let xs = c.args.members.now in
     omega (arith, groups_few (map item_of xs), length-map xs item_of, c.requires.few, ap length c.requires.empty)
 
-pub describe-group-requires-2 : goal.describe-group-requires-2
-describe-group-requires-2 c =
+pub describe_group-requires-2 : goal.describe_group-requires-2
+describe_group-requires-2 c =
     let xs = c.args.members.now in
-    omega (arith, groups_few (map item_of xs), length-map xs item_of, c.requires.few, ap length c.requires.empty, c.describe-group.ensures.len)
+    omega (arith, groups_few (map item_of xs), length-map xs item_of, c.requires.few, ap length c.requires.empty, c.describe_group.ensures.len)
 
-pub describe-group-requires-3 : goal.describe-group-requires-3
-describe-group-requires-3 c =
+pub describe_group-requires-3 : goal.describe_group-requires-3
+describe_group-requires-3 c =
     let xs = c.args.members.now in
-    omega (arith, groups_few (map item_of xs), length-map xs item_of, c.requires.few, ap length c.requires.empty, c.describe-group.ensures.len, c.describe-group-2.ensures.len)
+    omega (arith, groups_few (map item_of xs), length-map xs item_of, c.requires.few, ap length c.requires.empty, c.describe_group.ensures.len, c.describe_group-2.ensures.len)
 
-pub describe-group-requires-4 : goal.describe-group-requires-4
-describe-group-requires-4 c =
+pub describe_group-requires-4 : goal.describe_group-requires-4
+describe_group-requires-4 c =
     let xs = c.args.members.now in
     omega (
       arith,
@@ -29,13 +29,13 @@ describe-group-requires-4 c =
       length-map xs item_of,
       c.requires.few,
       ap length c.requires.empty,
-      c.describe-group.ensures.len,
-      c.describe-group-2.ensures.len,
-      c.describe-group-3.ensures.len,
+      c.describe_group.ensures.len,
+      c.describe_group-2.ensures.len,
+      c.describe_group-3.ensures.len,
     )
 
 pub returns : goal.returns
 returns c =
-    described_in_order (rows_of c.args.descriptors.now) (rows_of c.describe-group.new.descriptors) (rows_of c.describe-group-2.new.descriptors)
-    (rows_of c.describe-group-3.new.descriptors) (rows_of c.describe-group-4.new.descriptors) (map item_of c.args.members.now) c.requires.empty
-    c.describe-group.ensures.rows c.describe-group-2.ensures.rows c.describe-group-3.ensures.rows c.describe-group-4.ensures.rows
+    described_in_order (rows_of c.args.descriptors.now) (rows_of c.describe_group.new.descriptors) (rows_of c.describe_group-2.new.descriptors)
+    (rows_of c.describe_group-3.new.descriptors) (rows_of c.describe_group-4.new.descriptors) (map item_of c.args.members.now) c.requires.empty
+    c.describe_group.ensures.rows c.describe_group-2.ensures.rows c.describe_group-3.ensures.rows c.describe_group-4.ensures.rows

@@ -6,7 +6,7 @@ use Rattle.lowering.proofs.describing.describe_group.Given as goal
 
 abbrev pub invariant-loop-made : goal.invariant-loop-made
 invariant-loop-made l =
-    let group : Item → Bool = λ i. in_group l.is-static l.non-field i.member in
+    let group : Item → Bool = λ i. in_group l.is_static l.non_field i.member in
     let left = filter group (map item_of (drop l.made-index l.members)) in
     (map described_of (rows_of l.descriptors) ++ map describe left
     ≡ map described_of (rows_of l.initial.descriptors) ++ map describe (filter group (map item_of l.members)))

@@ -9,8 +9,8 @@ use Rattle.lowering.specs.Rows.{rows_of}
 use Rattle.lowering.proofs.Turns.{at_drop_item, appended_more, appended_all}
 use Rattle.lowering.proofs.naming.put_all.Goals as goal
 
-pub put-names-requires : goal.put-names-requires
-put-names-requires g c =
+pub put_names-requires : goal.put_names-requires
+put_names-requires g c =
     let names : List Made → List Name = λ ys. flat_map (picked c.args.pick) (map item_of ys) in
     let xs = c.args.members.now in
     let i = c.loop-made.made-index in
@@ -25,7 +25,7 @@ pub loop-made-preserved : goal.loop-made-preserved
 loop-made-preserved g c =
     let names : List Made → List Name = λ ys. flat_map (picked c.args.pick) (map item_of ys) in
     appended_more names (λ x. picked c.args.pick (item_of x)) c.args.members.now c.loop-made.made-index c.made-item.result _ _ _ _
-    c.loop-made-test.true c.made-item.is (λ rest. refl) c.put-names.ensures refl c.loop-made.invariant
+    c.loop-made-test.true c.made-item.is (λ rest. refl) c.put_names.ensures refl c.loop-made.invariant
 
 pub returns : goal.returns
 returns g c =

@@ -9,11 +9,11 @@ use Rattle.lowering.proofs.supply.supply.Goals as goal
 pub returns : goal.returns
 returns g c =
     let n = c.args.numbers.now.storage in
-    let plan = c.count-draws-plan.ensures in
-    let total = c.count-draws-plan.result.total in
+    let plan = c.count_draws-plan.ensures in
+    let total = c.count_draws-plan.result.total in
     let lent = length (take (total - 0) c.args.marks.now) in
     let asked : lent ≡ total = rw length-take (omega (arith, plan.few.3, c.requires.room)) in
-    let drawn = c.in_ok-draw-into.ensures in
+    let drawn = c.in_ok-draw_into.ensures in
     let small : n ≤ 65535 = omega arith in
     let fit = numbers_fit n 0 (seen_hand c.args.hand.now) small in
     record {
@@ -22,6 +22,6 @@ returns g c =
       storage = search rules;
       fits = fit (grind arith);
       drawn =
-          given g.S.Marks.free g.S.Marks.steps c.args.source.now c.draw-into.new.source lent c.draw-into.new.out
-          (post_of 0 (total - 0) c.args.marks.now) c.draw-into.auto.out drawn.answers drawn.takes drawn.steps total asked;
+          given g.S.Marks.free g.S.Marks.steps c.args.source.now c.draw_into.new.source lent c.draw_into.new.out
+          (post_of 0 (total - 0) c.args.marks.now) c.draw_into.auto.out drawn.answers drawn.takes drawn.steps total asked;
     }

@@ -5,7 +5,7 @@ use Rattle.rules.specs.Walks.{decorations, decorator_assignments}
 use Rattle.lowering.specs.Rows.{rows_of}
 use Rattle.lowering.proofs.Taken.{appended, turn_out, turn_in, rows_out, rows_in}
 use Rattle.lowering.proofs.taking.take_decorators.Goals as goal
-use Rattle.lowering.proofs.taking.take_decorators.Goals.{then-is-taken-out, else-is-taken-out}
+use Rattle.lowering.proofs.taking.take_decorators.Goals.{then-is_taken_out, else-is_taken_out}
 
 pub loop-decorator-preserved : goal.loop-decorator-preserved
 loop-decorator-preserved c =
@@ -19,23 +19,23 @@ loop-decorator-preserved c =
     let inv = c.loop-decorator.invariant in
     let within = c.loop-decorator-test.true in
     let room : length list < 8 = omega (arith, inv.2, within, c.requires.few) in
-    elim c.if-is-taken-out.branch [
-      | then-is-taken-out w ↦
-          let out = sym c.is-taken-out.ensures ∙ w.if-is-taken-out.true in
-          let name = w.name-at-name.result in
+    elim c.if-is_taken_out.branch [
+      | then-is_taken_out w ↦
+          let out = sym c.is_taken_out.ensures ∙ w.if-is_taken_out.true in
+          let name = w.name_at-name.result in
           let more = ap listed w.list-is ∙ appended list 8 _ _ w.append.ensures room in
           let pushed = ap rows_of w.assignments-is ∙ w.push.ensures in
           let longer = ap length pushed ∙ length_push rows _ in
           let one = ap length more ∙ length_push list _ in (
-            turn_out walked ds marks i k within list _ _ name _ out w.name-at-name.ensures w.next-is more inv.0,
-            rows_out walked ds marks i k within rows _ _ name _ out w.name-at-name.ensures w.next-is pushed inv.1,
+            turn_out walked ds marks i k within list _ _ name _ out w.name_at-name.ensures w.next-is more inv.0,
+            rows_out walked ds marks i k within rows _ _ name _ out w.name_at-name.ensures w.next-is pushed inv.1,
             omega (arith, one, inv.2),
             omega (arith, w.next-is, inv.3),
             omega (arith, longer, inv.4),
           )
-      | else-is-taken-out w ↦
-          let stays = sym c.is-taken-out.ensures ∙ w.if-is-taken-out.false in
-          let more = ap listed w.list-is ∙ appended list 8 _ _ w.append-else-is-taken-out.ensures room in
+      | else-is_taken_out w ↦
+          let stays = sym c.is_taken_out.ensures ∙ w.if-is_taken_out.false in
+          let more = ap listed w.list-is ∙ appended list 8 _ _ w.append-else-is_taken_out.ensures room in
           let kept = ap rows_of w.assignments-is in
           let longer = ap length kept in
           let one = ap length more ∙ length_push list _ in (

@@ -13,16 +13,16 @@ returns c =
     let marks = c.args.marks.now in
     let k = c.args.at in
     let m = seen_held c.args.slot.now in
-    let walked = c.is-taken.ensures ∙ ap taken c.parts-parts.ensures in
-    let all = c.as-slice-decorators.ensures ∙ ap (λ x. x.decorators) c.parts-parts.ensures in
-    let list = c.as-slice.ensures ∙ (c.take-decorators-decorations.ensures.list ∙ (ap (λ b. decorations b c.as-slice-decorators.result.now marks k) walked ∙ ap (λ ds. decorations (taken m) ds marks k) all)) in
-    let rows = ap (λ b. decorator_assignments b c.as-slice-decorators.result.now marks k) walked ∙ ap (λ ds. decorator_assignments (taken m) ds marks k) all in
+    let walked = c.is_taken.ensures ∙ ap taken c.parts-parts.ensures in
+    let all = c.as_slice-decorators.ensures ∙ ap (λ x. x.decorators) c.parts-parts.ensures in
+    let list = c.as_slice.ensures ∙ (c.take_decorators-decorations.ensures.list ∙ (ap (λ b. decorations b c.as_slice-decorators.result.now marks k) walked ∙ ap (λ ds. decorations (taken m) ds marks k) all)) in
+    let rows = ap (λ b. decorator_assignments b c.as_slice-decorators.result.now marks k) walked ∙ ap (λ ds. decorator_assignments (taken m) ds marks k) all in
     record {
-      item = made_first m (seen_held c.take-key.new.slot) c.take-key.new.slot.key _ marks k
-          (ap seen_member c.take-key.ensures.member) c.take-key.ensures.key (c.merge-decorators.ensures ∙ ap merged list);
+      item = made_first m (seen_held c.take_key.new.slot) c.take_key.new.slot.key _ marks k
+          (ap seen_member c.take_key.ensures.member) c.take_key.ensures.key (c.merge_decorators.ensures ∙ ap merged list);
       held = refl;
-      rows = c.take-key.ensures.rows
-          ∙ (ap (λ xs. xs ++ key_assignments marks k m) (c.take-decorators-decorations.ensures.rows ∙ ap (λ xs. rows_of c.args.assignments.now ++ xs) rows)
+      rows = c.take_key.ensures.rows
+          ∙ (ap (λ xs. xs ++ key_assignments marks k m) (c.take_decorators-decorations.ensures.rows ∙ ap (λ xs. rows_of c.args.assignments.now ++ xs) rows)
           ∙ append_assoc (rows_of c.args.assignments.now) (decorator_assignments (taken m) m.decorators marks k) (key_assignments marks k m));
-      few = omega (arith, c.take-decorators-decorations.ensures.few, ap length c.take-key.ensures.rows ∙ length-append _ (key_assignments marks k m), key_few marks k m);
+      few = omega (arith, c.take_decorators-decorations.ensures.few, ap length c.take_key.ensures.rows ∙ length-append _ (key_assignments marks k m), key_few marks k m);
     }

@@ -22,18 +22,18 @@ loop-i-init c =
       omega (arith, ap length c.requires.assignments),
     )
 
-pub take-first-made-requires : goal.take-first-made-requires
-take-first-made-requires c =
+pub take_first-made-requires : goal.take_first-made-requires
+take_first-made-requires c =
     let hs = rows_of c.args.hand.now in
     let rows = rows_of c.loop-i.hand in
     let i = c.loop-i.i in
-    let x = c.index-mut.result.now in
+    let x = c.index_mut.result.now in
     let inv = c.loop-i.invariant in
     let within : i < length rows = omega (arith, c.loop-i-test.true, c.len-i-end.ensures, c.args.hand.now.rows.ok.0, inv.1) in
     let few : length rows ≤ 64 = omega (arith, c.loop-i.hand.few, c.loop-i.hand.rows.ok.0) in
     record {
       at = omega (arith, within, few, inv.6);
-      written = first_written (drop i hs) x (drop (i + 1) hs) (left_item rows hs i x within c.index-mut.ensures.value inv.0) inv.2;
+      written = first_written (drop i hs) x (drop (i + 1) hs) (left_item rows hs i x within c.index_mut.ensures.value inv.0) inv.2;
       room = omega (arith, within, few, inv.7);
     }
 
@@ -44,23 +44,23 @@ loop-i-preserved c =
     let i = c.loop-i.i in
     let k = c.loop-i.at in
     let marks = c.args.marks.now in
-    let x = c.index-mut.result.now in
-    let y = c.take-first-made.new.slot in
-    let made = c.take-first-made.result in
+    let x = c.index_mut.result.now in
+    let y = c.take_first-made.new.slot in
+    let made = c.take_first-made.result in
     let inv = c.loop-i.invariant in
     let within : i < length rows = omega (arith, c.loop-i-test.true, c.len-i-end.ensures, c.args.hand.now.rows.ok.0, inv.1) in
-    let next = left_item rows hs i x within c.index-mut.ensures.value inv.0 in
-    let seen : seen_parts c.parts.result.now ≡ seen_held x = c.parts.ensures ∙ ap (λ z. z.member) c.take-first-made.ensures.item in
-    let count = c.first-count-at.ensures.is ∙ ap (λ m. length (first_stems m)) seen in
+    let next = left_item rows hs i x within c.index_mut.ensures.value inv.0 in
+    let seen : seen_parts c.parts.result.now ≡ seen_held x = c.parts.ensures ∙ ap (λ z. z.member) c.take_first-made.ensures.item in
+    let count = c.first_count-at.ensures.is ∙ ap (λ m. length (first_stems m)) seen in
     let pushed = c.push.ensures in (
       drop-set-lt (i + 1) rows i y (omega arith) ∙ left_rest rows hs i inv.0,
       length-set rows i y ∙ inv.1,
       rest_written (drop i hs) x (drop (i + 1) hs) next inv.2,
-      first_turn marks k c.first-count-at.result _ _ made (seen_held x) (seen_hand (drop i hs)) (seen_hand (drop (i + 1) hs)) _ pushed c.take-first-made.ensures.item count (ap seen_hand next) inv.3,
-      rows_turn marks k c.first-count-at.result _ _ (seen_held x) (seen_hand (drop i hs)) (seen_hand (drop (i + 1) hs)) _ c.take-first-made.ensures.rows count (ap seen_hand next) inv.4,
+      first_turn marks k c.first_count-at.result _ _ made (seen_held x) (seen_hand (drop i hs)) (seen_hand (drop (i + 1) hs)) _ pushed c.take_first-made.ensures.item count (ap seen_hand next) inv.3,
+      rows_turn marks k c.first_count-at.result _ _ (seen_held x) (seen_hand (drop i hs)) (seen_hand (drop (i + 1) hs)) _ c.take_first-made.ensures.rows count (ap seen_hand next) inv.4,
       omega (arith, ap length pushed ∙ length_push (rows_of c.loop-i.members) made, inv.5),
-      omega (arith, c.first-count-at.ensures.few, inv.6),
-      omega (arith, c.take-first-made.ensures.few, inv.7),
+      omega (arith, c.first_count-at.ensures.few, inv.6),
+      omega (arith, c.take_first-made.ensures.few, inv.7),
     )
 
 pub returns : goal.returns

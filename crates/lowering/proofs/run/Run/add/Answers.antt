@@ -8,25 +8,25 @@ use Rattle.lowering.specs.States.{state_of, with_members}
 use Rattle.lowering.proofs.Filled.{written_push}
 use Rattle.lowering.proofs.run.Run.add.Goals as goal
 
-pub returns-then-as-slice-ge64 : goal.returns-then-as-slice-ge64
-returns-then-as-slice-ge64 g c =
+pub returns-then-as_slice-ge64 : goal.returns-then-as_slice-ge64
+returns-then-as_slice-ge64 g c =
     let s = state_of c.args.self.now in
     let rows = rows_of c.args.self.now.hand in
-    let full : 64 ≤ length s.members = omega (arith, c.if-as-slice-ge64.true, ap length c.as-slice.ensures, length-map rows (λ h. h.member)) in
+    let full : 64 ≤ length s.members = omega (arith, c.if-as_slice-ge64.true, ap length c.as_slice.ensures, length-map rows (λ h. h.member)) in
     let test = le-ltb (length s.members) 64 full in
     record {
       answer = sym (ap (λ b. cond b (Ok tt) (Err TooMany)) test);
       after = sym (ap (λ b. cond b (with_members s (s.members ++ c.args.member ∷ [])) s) test);
     }
 
-pub invariant-of-self : goal.invariant-of-self
-invariant-of-self g c = (ap all_written c.push.ensures ∙ written_push (rows_of c.args.self.now.hand) c.args.member c.args.self.now.written, tt)
+pub invariant_of-self : goal.invariant-of-self
+invariant_of-self g c = (ap all_written c.push.ensures ∙ written_push (rows_of c.args.self.now.hand) c.args.member c.args.self.now.written, tt)
 
 pub returns : goal.returns
 returns g c =
     let s = state_of c.args.self.now in
     let rows = rows_of c.args.self.now.hand in
-    let short : length s.members < 64 = omega (arith, c.if-as-slice-ge64.false, ap length c.as-slice.ensures, length-map rows (λ h. h.member)) in
+    let short : length s.members < 64 = omega (arith, c.if-as_slice-ge64.false, ap length c.as_slice.ensures, length-map rows (λ h. h.member)) in
     let test = lt-ltb (length s.members) 64 short in
     let more = ap members_in c.push.ensures ∙ map_push (λ h. h.member) rows _ in
     record {
