@@ -1,6 +1,6 @@
 //! The counter.
 ghost use Rattle.std.specs.Prelude.{◌≡◌};
-ghost use Rattle.marks.specs.Counters.{from, counter_free, CounterSteps, CounterDrawsInOrder};
+ghost use Rattle.marks.specs.Counters.{from, counter_free, Counts, CounterDrawsInOrder};
 ghost use Rattle.std.proofs.Common.{rules};
 
 use crate::source::{Exhausted, Marks};
@@ -25,7 +25,7 @@ impl Counter {
 impl Marks for Counter {
     ghost free = { counter_free };
 
-    ghost steps = { CounterSteps };
+    ghost steps = { λ s r t. Counts s.next r t.next };
 
     ghost marks = { Prim.search rules };
 

@@ -1,7 +1,7 @@
 use Rattle.std.proofs.Common.{length, take, Ok, Err, subst, arith}
 use Rattle.marks.specs.Chains.{Drawn, Several}
 use Rattle.marks.proofs.Chains.{drawn_set}
-use Rattle.marks.proofs.Taking.{takes_set, rest_set, filled, stopped}
+use Rattle.marks.proofs.Taking.{takes_set, rest_set, written_filled, written_stopped, filled, stopped}
 use Rattle.marks.proofs.several.draw_into.Goals as goal
 
 pub loop-drawn-preserved : goal.loop-drawn-preserved
@@ -28,6 +28,8 @@ returns-in-Err g c =
     let all = stopped (length c.args.out.now) c.loop-drawn.drawn (free c.args.source.now) (free before) (free c.draw.new.self)
     c.in-Err.field-0 c.loop-drawn.out c.args.out.now c.loop-drawn.auto.out c.loop-drawn-test.true
     c.loop-drawn.invariant.0 drawn c.loop-drawn.invariant.1 in
+    let written = written_stopped (length c.args.out.now) c.loop-drawn.drawn (free c.args.source.now) (free before) (free c.draw.new.self)
+    c.in-Err.field-0 c.loop-drawn.out c.loop-drawn.auto.out c.loop-drawn-test.true c.loop-drawn.invariant.0 drawn in
     let refused = subst (λ k. steps before (Err (record { drawn = k })) c.draw.new.self) drawn.2 step in
     record {
       answers = all.answers;
@@ -35,7 +37,7 @@ returns-in-Err g c =
       rest = all.rest;
       steps =
           subst (λ i. Several steps (Err (record { drawn = c.loop-drawn.drawn })) (take i c.loop-drawn.out) c.args.source.now c.draw.new.self)
-          all.written (before, c.loop-drawn.invariant.2, refused);
+          written (before, c.loop-drawn.invariant.2, refused);
     }
 
 pub returns : goal.returns
@@ -44,10 +46,12 @@ returns g c =
     let all = filled (length c.args.out.now) c.loop-drawn.drawn (free c.args.source.now) c.loop-drawn.out c.args.out.now
     (free c.loop-drawn.source) c.loop-drawn.auto.out c.loop-drawn-test.false c.loop-drawn.auto.drawn-end
     c.loop-drawn.invariant.0 c.loop-drawn.invariant.1 in
+    let written = written_filled (length c.args.out.now) c.loop-drawn.drawn (free c.args.source.now) c.loop-drawn.out (free c.loop-drawn.source)
+    c.loop-drawn.auto.out c.loop-drawn-test.false c.loop-drawn.auto.drawn-end c.loop-drawn.invariant.0 in
     record {
       answers = all.answers;
       takes = all.takes;
       rest = all.rest;
       steps =
-          subst (λ i. Drawn g.S.Marks.steps (take i c.loop-drawn.out) c.args.source.now c.loop-drawn.source) all.written c.loop-drawn.invariant.2;
+          subst (λ i. Drawn g.S.Marks.steps (take i c.loop-drawn.out) c.args.source.now c.loop-drawn.source) written c.loop-drawn.invariant.2;
     }
