@@ -19,8 +19,8 @@ returns-then-as_slice-ge64 g c =
       after = sym (ap (λ b. cond b (with_members s (s.members ++ c.args.member ∷ [])) s) test);
     }
 
-pub invariant_of-self : goal.invariant-of-self
-invariant_of-self g c = (ap all_written c.push.ensures ∙ written_push (rows_of c.args.self.now.hand) c.args.member c.args.self.now.written, tt)
+pub invariant_of-self : goal.invariant_of-self
+invariant_of-self g c = record { written = ap all_written c.push.ensures ∙ written_push (rows_of c.args.self.now.hand) c.args.member c.args.self.now.written }
 
 pub returns : goal.returns
 returns g c =
