@@ -1,5 +1,5 @@
 -- Where the instance starter is called in a constructor.
-use Rattle.std.proofs.Common.{◌≡◌, ℕ, ◌+◌, Bool, true, false, cond, ◌&&◌, List, [], ◌∷◌, is_some, Option, sym, refl, ap, ◌∙◌}
+use Rattle.std.proofs.Common.{◌≡◌, ℕ, ◌+◌, Bool, true, false, cond, ◌&&◌, List, ◌∷◌, is_some, Option, sym, refl, ap}
 use Rattle.sheet.specs.Seen.{Seen}
 use Rattle.rules.specs.declared.naming.Name.{Name}
 use Rattle.rules.specs.declared.forming.Constructor.{Constructor}

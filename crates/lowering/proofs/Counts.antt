@@ -4,7 +4,6 @@ use Rattle.std.proofs.lemmas.List.{length-append, length-map}
 use Rattle.sheet.specs.Seen.{Seen}
 use Rattle.rules.specs.declared.naming.Stem.{Stem}
 use Rattle.rules.specs.declared.naming.Stem.TheVariants.{Args, ComputedKey}
-use Rattle.rules.specs.declared.treating.Starters.{Starters}
 use Rattle.rules.specs.Members.{any_of, starts, holds_call, built, replaced}
 use Rattle.rules.specs.Draws.{Drawing, starters_after, expressions, first_stems, second_stems, third_stems, if_so, drawings, for_each, for_second_walk, draws_args, draws, no_starters, second_from, third_from, args_at, constructor_calls}
 use Rattle.lowering.specs.declared.draws.Tally.{Tally}

@@ -1,5 +1,5 @@
 -- The record that the walks fill.
-use Rattle.std.proofs.Common.{◌≡◌, Bool, true, false, ◌&&◌, List, [], ◌∷◌, ◌++◌, map, sym, refl, ap, ◌∙◌}
+use Rattle.std.proofs.Common.{◌≡◌, Bool, true, false, ◌&&◌, List, [], ◌∷◌, ◌++◌, map, refl}
 use Rattle.sheet.specs.declared.member.Member.{Member}
 use Rattle.rules.specs.declared.forming.HandKey.TheVariants.{Written}
 use Rattle.rules.specs.declared.forming.Held.{Held}

@@ -1,5 +1,5 @@
 -- The names in the order of the results, and the variables.
-use Rattle.std.proofs.Common.{◌≡◌, ℕ, ◌+◌, ◌*◌, ◌≤◌, Bool, true, false, cond, List, [], ◌∷◌, ◌++◌, map, length, Some, None, filter, Option, sym, refl, ap, ◌∙◌, append_assoc, arith}
+use Rattle.std.proofs.Common.{◌≡◌, ◌+◌, ◌*◌, ◌≤◌, Bool, true, false, cond, List, [], ◌∷◌, ◌++◌, length, Some, None, filter, Option, sym, refl, ap, ◌∙◌, append_assoc, arith}
 use Rattle.std.specs.List.{flat_map}
 use Rattle.std.proofs.lemmas.List.{length-append}
 use Rattle.rules.specs.declared.naming.Name.{Name}
@@ -10,7 +10,7 @@ use Rattle.rules.specs.Records.{second_names, third_names, item_names, in_order,
 use Rattle.rules.specs.Walks.{Item}
 use Rattle.lowering.specs.Picks.{picked}
 use Rattle.lowering.specs.declared.naming.Pick.TheVariants.{Group}
-use Rattle.lowering.proofs.Described.{grouped, groups_few}
+use Rattle.lowering.proofs.Described.{grouped}
 
 pub joined_append : {X Y : Type 0} (f : X → List Y) (xs ys : List X) → flat_map f (xs ++ ys) ≡ flat_map f xs ++ flat_map f ys
 joined_append f [] ys = refl

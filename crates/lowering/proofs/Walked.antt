@@ -1,9 +1,8 @@
 -- One member of a walk.
-use Rattle.std.proofs.Common.{◌≡◌, ℕ, ◌+◌, ◌<◌, ◌≤◌, Bool, true, false, cond, ◌&&◌, List, [], ◌∷◌, ◌++◌, map, length, get_or, drop, set, count_by, sym, refl, ap, ◌∙◌, arith}
-use Rattle.std.proofs.lemmas.List.{get_or-set_same, drop-set-lt, drop-drop, map_push, append_assoc}
+use Rattle.std.proofs.Common.{◌≡◌, ℕ, ◌+◌, ◌<◌, Bool, true, false, cond, ◌&&◌, List, [], ◌∷◌, ◌++◌, map, length, get_or, drop, set, count_by, sym, refl, ap, ◌∙◌, arith}
+use Rattle.std.proofs.lemmas.List.{get_or-set_same, drop-drop, map_push, append_assoc}
 use Rattle.std.proofs.lemmas.List.Sums.{sum_by-cons}
 use Rattle.sheet.specs.Seen.{Seen}
-use Rattle.sheet.specs.Members.{seen_member}
 use Rattle.rules.specs.declared.describing.Assignment.{Assignment}
 use Rattle.rules.specs.declared.forming.HandKey.{HandKey}
 use Rattle.rules.specs.declared.forming.HandKey.TheVariants.{Written, Computed}

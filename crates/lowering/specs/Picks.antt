@@ -1,5 +1,5 @@
 -- Which names of a member are wanted.
-use Rattle.std.specs.Prelude.{Bool, List}
+use Rattle.std.specs.Prelude.{List}
 use Rattle.rules.specs.declared.naming.Name.{Name}
 use Rattle.rules.specs.Draws.{if_so}
 use Rattle.rules.specs.Records.{in_group, second_names, third_names, item_names}

@@ -1,5 +1,5 @@
 -- The names that a class draws, counted member by member.
-use Rattle.std.specs.Prelude.{ℕ, ◌+◌, Bool, cond, not, ◌&&◌, ◌||◌, List, [], ◌∷◌, length}
+use Rattle.std.specs.Prelude.{◌+◌, Bool, cond, not, ◌&&◌, ◌||◌, List, [], ◌∷◌, length}
 use Rattle.sheet.specs.Seen.{Seen}
 use Rattle.rules.specs.Members.{built}
 use Rattle.rules.specs.Draws.{starters_after, first_stems, second_stems, third_stems}

@@ -1,4 +1,4 @@
-use Rattle.std.proofs.Common.{◌≡◌, ℕ, ◌+◌, ◌<◌, ◌≤◌, Bool, cond, ◌++◌, map, length, filter, sym, refl, ap, ◌∙◌, append-nil, arith, lit<}
+use Rattle.std.proofs.Common.{ℕ, Bool, cond, ◌++◌, map, length, filter, sym, ap, ◌∙◌, append-nil, arith, lit<}
 use Rattle.std.proofs.lemmas.List.{at_drop_all, length_push}
 use Rattle.rules.specs.Records.{in_group, describe, described_of}
 use Rattle.rules.specs.Walks.{Item, item_of}

@@ -1,6 +1,5 @@
-use Rattle.std.proofs.Common.{◌≡◌, ◌+◌, ◌≤◌, ◌∷◌, drop, sym, refl, ap, ◌∙◌, arith}
+use Rattle.std.proofs.Common.{◌≡◌, ◌+◌, ◌≤◌, drop, sym, ap, ◌∙◌, arith}
 use Rattle.std.proofs.lemmas.List.{at_drop_all}
-use Rattle.sheet.specs.Members.{seen_member}
 use Rattle.lowering.specs.Hands.{seen_hand}
 use Rattle.lowering.specs.Tallies.{tally_after, tallied, plan_of}
 use Rattle.lowering.proofs.Counts.{started, plan_second, plan_third, plan_args, plan_total, plan_calls, plan_few}

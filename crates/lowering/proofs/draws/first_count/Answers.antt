@@ -1,7 +1,5 @@
-use Rattle.std.proofs.Common.{◌≡◌, ℕ, ◌+◌, ◌≤◌, cond, length, sym, ap, ◌∙◌, arith}
+use Rattle.std.proofs.Common.{ℕ, cond, ap, arith}
 use Rattle.sheet.specs.Seen.{seen_parts}
-use Rattle.rules.specs.Members.{replaced}
-use Rattle.rules.specs.Draws.{expressions, first_stems}
 use Rattle.lowering.proofs.Counts.{first_length}
 use Rattle.lowering.proofs.draws.first_count.Goals as goal
 use Rattle.lowering.proofs.draws.first_count.Goals.{then-is_replaced, else-is_replaced}

@@ -1,4 +1,4 @@
-use Rattle.std.proofs.Common.{◌≡◌, List, ◌++◌, map, length, ap, ◌∙◌, append_assoc, arith, lit<}
+use Rattle.std.proofs.Common.{List, ◌++◌, map, length, ap, ◌∙◌, append_assoc, arith, lit<}
 use Rattle.std.specs.List.{flat_map}
 use Rattle.std.proofs.lemmas.List.{length-append, length-map}
 use Rattle.rules.specs.declared.naming.Name.{Name}

@@ -1,4 +1,4 @@
-use Rattle.std.proofs.Common.{◌≡◌, ◌+◌, ◌<◌, List, [], ◌∷◌, ◌++◌, map, length, get_or, drop, sym, refl, ap, ◌∙◌, append_assoc, arith, lit<}
+use Rattle.std.proofs.Common.{◌+◌, [], ◌∷◌, ◌++◌, map, length, get_or, drop, sym, refl, ap, ◌∙◌, append_assoc, arith, lit<}
 use Rattle.std.proofs.lemmas.List.{length-append, length-map, length-drop, at_drop_more}
 use Rattle.rules.specs.declared.naming.Stem.TheVariants.{Dec}
 use Rattle.rules.specs.declared.naming.Name.{Name}

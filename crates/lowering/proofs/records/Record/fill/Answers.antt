@@ -1,4 +1,4 @@
-use Rattle.std.proofs.Common.{◌≡◌, ◌+◌, map, sym, refl, ap, ◌∙◌, arith}
+use Rattle.std.proofs.Common.{ap, arith}
 use Rattle.rules.specs.Walks.{item_of}
 use Rattle.rules.specs.Records.{described_of}
 use Rattle.lowering.specs.Hands.{seen_hand}
