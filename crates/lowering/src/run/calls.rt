@@ -36,6 +36,7 @@ impl<S> Run<S> {
     }
 
     /// Appends a member to the class in hand. A 65th is refused.
+    #[tactic(auto, using(crate::proofs::Filled::written_push))]
     pub fn add(&mut self, member: Member) -> Result<(), ClassFault>
         ensures answer { result ≡ added (state_of self.old) }
         ensures after { state_of self.new ≡ after_add (state_of self.old) member }
