@@ -1,5 +1,5 @@
 -- The record of a lowered class.
-use Rattle.std.specs.Prelude.{ℕ, suc, ◌+◌, Bool, true, false, cond, not, ◌&&◌, ◌||◌, List, [], ◌∷◌, ◌++◌, map, length, is_some, Some, None, count_by, filter, Option}
+use Rattle.std.specs.Prelude.{ℕ, ◌+◌, Bool, true, false, cond, List, [], ◌∷◌, ◌++◌, map, is_some, Some, None, filter, Option}
 use Rattle.std.specs.List.{flat_map}
 use Rattle.formats.specs.declared.Place.{Place}
 use Rattle.lists.specs.Listed.{listed}
@@ -27,8 +27,8 @@ use Rattle.rules.specs.declared.forming.MadeForm.TheVariants.{AsWritten, Initial
 use Rattle.rules.specs.declared.forming.Constructor.{Constructor}
 use Rattle.rules.specs.declared.forming.Constructor.TheVariants as constructors
 use Rattle.rules.specs.declared.forming.Frame.{Frame}
-use Rattle.rules.specs.Members.{non_empty, starts, field_in, of_constructor, accessor, text_of, kind_code}
-use Rattle.rules.specs.Draws.{if_so, named, no_starters, constructor_calls, second_from, third_from, args_at}
+use Rattle.rules.specs.Members.{non_empty, starts, field_in, of_constructor, text_of, kind_code}
+use Rattle.rules.specs.Draws.{named, no_starters, constructor_calls, second_from, third_from, args_at}
 use Rattle.rules.specs.Walks.{Applied, applied, Item, some_if, first_walk, second_walk, third_walk, assignments_from}
 
 -- what a private method, getter or setter was, with a list where the code has an array

@@ -1,12 +1,9 @@
 -- The three walks: what each member is made into.
-use Rattle.std.specs.Prelude.{ℕ, suc, ◌+◌, Bool, true, false, cond, not, ◌&&◌, ◌||◌, List, [], ◌∷◌, ◌++◌, length, Some, None, Option}
-use Rattle.formats.specs.declared.Place.{Place}
+use Rattle.std.specs.Prelude.{ℕ, ◌+◌, Bool, true, false, cond, not, ◌&&◌, List, [], ◌∷◌, ◌++◌, length, Some, None, Option}
 use Rattle.lists.specs.Listed.{listed}
-use Rattle.pieces.specs.declared.codes.Kind.{Kind}
 use Rattle.pieces.specs.declared.parts.Decorator.{Decorator}
 use Rattle.sheet.specs.Seen.{Seen}
 use Rattle.sheet.specs.Members.{seen_member}
-use Rattle.rules.specs.declared.naming.Stem.{Stem}
 use Rattle.rules.specs.declared.naming.Stem.TheVariants.{Dec, ComputedKey, Value, V, Get, Set, Call}
 use Rattle.rules.specs.declared.naming.Name.{Name}
 use Rattle.rules.specs.declared.treating.Treatment.{Treatment}
@@ -27,7 +24,7 @@ use Rattle.rules.specs.declared.forming.Access.{Access}
 use Rattle.rules.specs.declared.forming.MadeForm.{MadeForm}
 use Rattle.rules.specs.declared.forming.MadeForm.TheVariants as forms
 use Rattle.rules.specs.declared.forming.Made.{Made}
-use Rattle.rules.specs.Members.{treatment, is_field, is_non_field, accessor, taken, taken_out, replaced, text_of}
+use Rattle.rules.specs.Members.{treatment, is_non_field, accessor, taken, taken_out, replaced, text_of}
 use Rattle.rules.specs.Draws.{named, field_init, accessor_init, starter_stem, due, starters_after, expressions, first_stems, second_stems, third_stems}
 
 -- the decorators of a member as its descriptor has them, with a list where the code has an array
