@@ -48,15 +48,15 @@ text_to s i last =
 pub length_window : (s w : List ℕ) (last : ℕ) → w ≡ take last s → last ≤ length s → length w ≡ last
 length_window s w last is h = let size = length-take last s in omega (arith, ap length is)
 
-get_d_window : (s w : List ℕ) (last i : ℕ) → w ≡ take last s → i < last → get_or w i 0 ≡ get_or s i 0
-get_d_window s w last i is h = ap (λ l. get_or l i 0) is ∙ get_or-take last s i 0 h
+get_or_window : (s w : List ℕ) (last i : ℕ) → w ≡ take last s → i < last → get_or w i 0 ≡ get_or s i 0
+get_or_window s w last i is h = ap (λ l. get_or l i 0) is ∙ get_or-take last s i 0 h
 
 pub byte_window : (s w : List ℕ) (last i : ℕ) → w ≡ take last s → last ≤ length s → byte_to s i last ≡ byte_at w i
 byte_window s w last i is h =
     by (ltb i last) refl ∙ ap (λ n. cond (ltb i n) (Ok (get_or w i 0)) (Err (CutShort i))) (sym (length_window s w last is h))
   where
     by : (b : Bool) → ltb i last ≡ b → byte_to s i last ≡ cond (ltb i last) (Ok (get_or w i 0)) (Err (CutShort i))
-    by true e = ap (λ b. cond (ltb i last) (Ok b) (Err (CutShort i))) (sym (get_d_window s w last i is (ltb-true i last e)))
+    by true e = ap (λ b. cond (ltb i last) (Ok b) (Err (CutShort i))) (sym (get_or_window s w last i is (ltb-true i last e)))
     by false e = rw e
 
 word_window : (s w : List ℕ) (last i : ℕ) → w ≡ take last s → last ≤ length s → word_to s i last ≡ word_at w i
@@ -69,7 +69,7 @@ word_window s w last i is h =
     by true e =
         let inside = leb-true (i + 2) last e in
         ap₂ (λ a b. cond (leb (i + 2) last) (Ok (a * 256 + b)) (Err (CutShort i)))
-        (sym (get_d_window s w last i is (omega arith))) (sym (get_d_window s w last (i + 1) is (omega arith)))
+        (sym (get_or_window s w last i is (omega arith))) (sym (get_or_window s w last (i + 1) is (omega arith)))
     by false e = rw e
 
 pub text_window : (s w : List ℕ) (last i : ℕ) → w ≡ take last s → last ≤ length s → text_to s i last ≡ text_at w i
