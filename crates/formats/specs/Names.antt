@@ -1,5 +1,6 @@
 -- Names: from 1 to 64 ASCII letters, digits, `_` (95) and `$` (36), of which the first is no digit.
-use Rattle.std.specs.Prelude.{ℕ, Bool, true, false, not, ◌&&◌, ◌||◌, List, [], ◌∷◌, length, ◌==◌, nat_le}
+use Rattle.std.specs.Prelude.{ℕ, Bool, false, not, ◌&&◌, ◌||◌, List, [], ◌∷◌, length, ◌==◌, nat_le}
+use Rattle.std.specs.List.{list_all}
 
 abbrev pub is_digit : ℕ → Bool
 is_digit b = nat_le 48 b && nat_le b 57
@@ -11,8 +12,7 @@ abbrev pub in_name : ℕ → Bool
 in_name b = is_letter b || (is_digit b || (b == 95 || b == 36))
 
 abbrev pub all_in_name : List ℕ → Bool
-all_in_name [] = true
-all_in_name (b ∷ bs) = in_name b && all_in_name bs
+all_in_name bs = list_all in_name bs
 
 abbrev pub is_name : List ℕ → Bool
 is_name [] = false

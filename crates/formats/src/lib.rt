@@ -4,12 +4,16 @@
 
 #![tactic(auto)]
 
-ghost use Rattle.std.specs.Prelude.{◌≤◌, length};
+ghost use Rattle.std.specs.Prelude.{◌≡◌, ◌≤◌, length};
+ghost use Rattle.formats.specs.Refusals.{reading_refusal};
 
+mod cursor;
 mod names;
 mod reading;
 
+pub use cursor::{Cursor, Text};
 pub use names::is_name;
+use refusals::{Layer, Numbered};
 
 /// A sheet has no more bytes than this.
 pub const MOST_BYTES: usize = 65535;
@@ -24,7 +28,7 @@ pub struct Sheet<'s> {
 }
 
 /// Where a text lies in its sheet.
-#[derive(Clone, Copy)]
+#[derive(Clone, Copy, Default)]
 pub struct Place {
     pub start: u16,
     pub length: u16,
@@ -43,4 +47,23 @@ pub enum ReadFault {
     Unknown { at: usize },
     /// The text has to be a name, and is none.
     NoName { at: usize },
+}
+
+impl From<ReadFault> for Numbered {
+    ghost from_gives = { λ fault told. told ≡ reading_refusal fault };
+
+    fn from(fault: ReadFault) -> Numbered {
+        let (number, place) = match fault {
+            ReadFault::Version => (1, 0),
+            ReadFault::CutShort { at } => (2, at),
+            ReadFault::Spare { at } => (3, at),
+            ReadFault::Unknown { at } => (4, at),
+            ReadFault::NoName { at } => (5, at),
+        };
+        Numbered {
+            number,
+            layer: Layer::Reading,
+            place,
+        }
+    }
 }

@@ -9,7 +9,7 @@ impl Place {
     pub fn end(self) -> usize
         ensures { result ≡ end self }
     {
-        self.start as usize + self.length as usize
+        usize::from(self.start) + usize::from(self.length)
     }
 }
 
@@ -20,7 +20,7 @@ impl<'s> Sheet<'s> {
     {
         let end = bytes.len().min(MOST_BYTES);
         Sheet {
-            bytes: &bytes[0..end],
+            bytes: &bytes[..end],
         }
     }
 
@@ -31,7 +31,7 @@ impl<'s> Sheet<'s> {
         let bytes = self.bytes;
         let end = end.min(bytes.len());
         Sheet {
-            bytes: &bytes[0..end],
+            bytes: &bytes[..end],
         }
     }
 
@@ -46,30 +46,25 @@ impl<'s> Sheet<'s> {
     pub fn byte(self, at: usize) -> Result<u8, ReadFault>
         ensures { result ≡ byte_at (bytes_of self.entry) at }
     {
-        if at < self.len() {
-            Ok(self.bytes[at])
-        } else {
-            Err(ReadFault::CutShort { at })
-        }
+        self.bytes
+            .get(at)
+            .copied()
+            .ok_or(ReadFault::CutShort { at })
     }
 
     /// The place of the text whose length stands in the two bytes at `at`, the high one first.
     pub fn text(self, at: usize) -> Result<Place, ReadFault>
         ensures { result ≡ text_at (bytes_of self.entry) at }
     {
-        let all = self.len();
-        if all < 2 || at > all - 2 {
+        let Some([high, low, rest @ ..]) = self.bytes.get(at..) else {
+            return Err(ReadFault::CutShort { at });
+        };
+        let length = u16::from_be_bytes([*high, *low]);
+        if usize::from(length) > rest.len() {
             return Err(ReadFault::CutShort { at });
         }
-        let start = at + 2;
-        let length = self.bytes[at] as usize * 256 + self.bytes[at + 1] as usize;
-        if length > all - start {
-            return Err(ReadFault::CutShort { at });
-        }
-        Ok(Place {
-            start: start as u16,
-            length: length as u16,
-        })
+        let start = (at + 2) as u16;
+        Ok(Place { start, length })
     }
 
     /// The bytes at a place, as far as the sheet has them.
@@ -77,7 +72,7 @@ impl<'s> Sheet<'s> {
         ensures { result.now ≡ bytes_at (bytes_of self.entry) place }
     {
         let bytes = self.bytes;
-        let start = bytes.len().min(place.start as usize);
+        let start = bytes.len().min(usize::from(place.start));
         let end = bytes.len().min(place.end());
         &bytes[start..end]
     }

@@ -19,6 +19,6 @@ counted most read s at =
     then (byte_at s at) (λ n. cond (nat_le n most) (items read n [] (at + 1)) (Err (Unknown at)))
 
 -- what was read, as a list
-abbrev pub shown : {X E : Type 0} {N : ℕ} → Result (Bounded X N × ℕ) E → Result (List X × ℕ) E
-shown (Ok x) = Ok (listed x.0, x.1)
+abbrev pub shown : {X E : Type 0} {N : ℕ} → Result (Bounded X N) E → Result (List X) E
+shown (Ok b) = Ok (listed b)
 shown (Err e) = Err e

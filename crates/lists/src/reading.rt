@@ -1,40 +1,37 @@
 //! A list as a sheet has it.
 ghost use Rattle.std.specs.Prelude.{◌≡◌, ℕ, List};
-ghost use Rattle.formats.specs.Reading.{bytes_of};
+ghost use Rattle.formats.specs.Cursors.{bytes_in, with_next};
 ghost use Rattle.lists.specs.Listed.{Reader, counted, shown};
 
 use super::Bounded;
-use formats::{ReadFault, Sheet};
+use formats::{Cursor, ReadFault};
 
-/// What a list can hold.
-pub trait Item: Copy {
+/// What a list can hold. In the places of a list that hold none stands the default.
+pub trait Item: Copy + Default {
     ghost reads: { List ℕ → Reader Self };
 
-    /// The item at `at`, and where the next field begins.
-    fn read(sheet: Sheet<'_>, at: usize) -> Result<(Self, usize), ReadFault>
-        ensures { result ≡ reads (bytes_of sheet.entry) at };
-
-    /// Any item, for the places of a list that hold none.
-    fn filler() -> Self;
+    /// The next item.
+    fn read(cursor: &mut Cursor<'_>) -> Result<Self, ReadFault>
+        ensures item { with_next result cursor.new.at ≡ reads (bytes_in cursor.old) cursor.old.at }
+        ensures sheet { cursor.new.sheet ≡ cursor.old.sheet };
 }
 
-/// The list at `at`, and where the next field begins. A count over `N` is refused.
+/// The next list. A count over `N` is refused.
 pub fn read_list<T: Item, const N: usize>(
-    sheet: Sheet<'_>,
-    at: usize,
-) -> Result<(Bounded<T, N>, usize), ReadFault>
-    ensures { shown result ≡ counted N (T.Item.reads (bytes_of sheet.entry)) (bytes_of sheet.entry) at }
+    cursor: &mut Cursor<'_>,
+) -> Result<Bounded<T, N>, ReadFault>
+    ensures list { with_next (shown result) cursor.new.at ≡ counted N (T.Item.reads (bytes_in cursor.old)) (bytes_in cursor.old) cursor.old.at }
+    ensures sheet { cursor.new.sheet ≡ cursor.old.sheet }
 {
-    let count = sheet.byte(at)? as usize;
+    let at = cursor.at;
+    let count = usize::from(cursor.byte()?);
     if count > N {
         return Err(ReadFault::Unknown { at });
     }
-    let mut list = Bounded::new(T::filler());
-    let mut next = at + 1;
-    for i in 0..count {
-        let (item, after) = T::read(sheet, next)?;
+    let mut list = Bounded::new(T::default());
+    for _ in 0..count {
+        let item = T::read(cursor)?;
         list.push(item);
-        next = after;
     }
-    Ok((list, next))
+    Ok(list)
 }

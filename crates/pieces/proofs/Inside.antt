@@ -10,10 +10,12 @@ use Rattle.pieces.specs.Codes.{kind_of, flags_of, key_kind_of}
 use Rattle.pieces.specs.Items.{decorator_at, parameter_at}
 use Rattle.pieces.specs.Parts.{piece_at, place_of, key, body, names_key}
 use Rattle.pieces.proofs.Texts.{piece_inside}
+use Rattle.pieces.specs.declared.codes.Kind.{Kind}
+use Rattle.pieces.specs.declared.parts.Key.{Key}
 use Rattle.pieces.specs.declared.parts.Body.{Body}
 use Rattle.pieces.specs.declared.parts.Body.TheVariants.{Text, Constructor}
 use Rattle.pieces.specs.declared.fields.Head.{Head}
-use Rattle.pieces.specs.Fields.{Fields, head_at, body_at, fields_at}
+use Rattle.pieces.specs.Fields.{Fields, key_at, head_at, body_at, fields_at}
 use Rattle.pieces.specs.Bodies.{is_constructor}
 use Rattle.pieces.proofs.Layouts.{makes_key, makes_body}
 
@@ -26,17 +28,22 @@ pub inside_more : (m n : ℕ) (b : Body) → m ≤ n → BodyInside m b → Body
 inside_more m n (Text p) h inside = omega arith
 inside_more m n (Constructor head tail) h inside = (omega arith, omega arith)
 
+key_inside : (w : List ℕ) (of : Kind) (i : ℕ) (k : Key × ℕ) → key_at w of i ≡ Ok k → end k.0.text ≤ length w
+key_inside w of i k e0 =
+    let (c, _, e1) = went (byte_at w i) _ k e0 in
+    let (kind, _, e2) = went (key_kind_of c i) _ k e1 in
+    let (q, is, e3) = went (piece_at w (key of kind) (i + 1)) _ k e2 in
+    subst (λ (x : Key × ℕ). end x.0.text ≤ length w) (same_ok e3)
+    (piece_inside w (i + 1) (key of kind) (names_key of kind) (makes_key of kind) q is)
+
 head_inside : (w : List ℕ) (i : ℕ) (h : Head × ℕ) → head_at w i ≡ Ok h → end h.0.key.text ≤ length w
 head_inside w i h e0 =
     let (a, _, e1) = went (byte_at w i) _ h e0 in
     let (kind, _, e2) = went (kind_of a i) _ h e1 in
     let (b, _, e3) = went (byte_at w (i + 1)) _ h e2 in
     let (flags, _, e4) = went (flags_of b (i + 1)) _ h e3 in
-    let (c, _, e5) = went (byte_at w (i + 2)) _ h e4 in
-    let (k, _, e6) = went (key_kind_of c (i + 2)) _ h e5 in
-    let (q, is, e7) = went (piece_at w (key kind k) (i + 3)) _ h e6 in
-    subst (λ (x : Head × ℕ). end x.0.key.text ≤ length w) (same_ok e7)
-    (piece_inside w (i + 3) (key kind k) (names_key kind k) (makes_key kind k) q is)
+    let (k, is, e5) = went (key_at w kind (i + 2)) _ h e4 in
+    subst (λ (x : Head × ℕ). end x.0.key.text ≤ length w) (same_ok e5) (key_inside w kind (i + 2) k is)
 
 body_inside : (w : List ℕ) (constructor : Bool) (i : ℕ) (b : Body × ℕ) →
     ◌≡◌ {A = Result (Body × ℕ) ReadFault}

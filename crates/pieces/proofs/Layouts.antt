@@ -1,5 +1,5 @@
 -- The fields of a member and their layout. Assumes nothing.
-use Rattle.std.proofs.Common.{◌≡◌, ℕ, ◌+◌, ◌≤◌, Bool, true, false, cond, ltb, List, [], ◌++◌, take, Ok, Err, Result, sym, refl, ap, ◌∙◌, subst, ap₂, arith, rules}
+use Rattle.std.proofs.Common.{◌≡◌, ℕ, ◌+◌, ◌≤◌, Bool, true, false, cond, ltb, List, [], ◌++◌, take, Ok, Err, Result, sym, refl, ap, subst, ap₂, arith, rules}
 use Rattle.std.proofs.lemmas.Bool.{true≢false, false≢true}
 use Rattle.formats.specs.declared.ReadFault.{ReadFault}
 use Rattle.formats.specs.declared.ReadFault.TheVariants.{Spare}
@@ -20,11 +20,11 @@ use Rattle.pieces.proofs.Texts.{Makes, piece_reads, decorators_reads, parameters
 use Rattle.pieces.specs.declared.parts.Body.{Body}
 use Rattle.pieces.specs.declared.parts.Body.TheVariants.{Text, Constructor}
 use Rattle.pieces.specs.Described.{HeadText, BodyText, one_text, head_and_tail}
-use Rattle.pieces.specs.Fields.{Fields, head_at, body_at, fields_at}
-use Rattle.pieces.specs.Kept.{KeptText, KeptHead, KeptBody, KeptFields}
-use Rattle.pieces.specs.Layout.{head_bytes, body_bytes, rest_bytes}
+use Rattle.pieces.specs.Fields.{Fields, key_at, head_at, body_at, fields_at}
+use Rattle.pieces.specs.Kept.{KeptText, KeptKey, KeptHead, KeptBody, KeptFields}
+use Rattle.pieces.specs.Layout.{key_bytes, head_bytes, body_bytes, rest_bytes}
 use Rattle.pieces.specs.Bodies.{is_constructor}
-use Rattle.pieces.specs.Shown.{shown_head, shown_body, shown_fields}
+use Rattle.pieces.specs.Shown.{shown_key, shown_head, shown_body, shown_fields}
 
 pub makes_key : (of : Kind) (k : KeyKind) → Makes (key of k) (names_key of k)
 makes_key of k = record { place = λ t p. refl; bytes = λ t p. refl; names = λ t p. refl }
@@ -45,22 +45,30 @@ any : {t : List ℕ} → Short t → KeptText false t
 any h = record { short = h; named = λ e. absurd (false≢true e) }
 
 module _ (s w : List ℕ) (last : ℕ) (is : w ≡ take last s) where
+  key_reads : (of : Kind) (i : ℕ) → Reads s last i (UpTo last) (key_at w of i) (λ y. y.1) (λ y. shown_key s y.0) key_bytes (KeptKey of)
+  key_reads of i =
+      whole
+      (coded w is (i + 1) refl (λ a. key_kind_of a i) key_code (keys i) (λ k. k.kind) (λ n h. h)
+      (λ kind _. final (λ k. k.text) (λ k kept h. subst (λ b. KeptText (names_key of b) k.text) h.1 kept) (λ n h. h)
+      (piece_reads s w last (i + 1) is (key of kind) (names_key of kind) (makes_key of kind))
+      (λ q _ kept _ _. done (record { kind = kind; text = place_of q }, end (place_of q)) refl (λ h. h) kept (search rules)
+      (λ k _ h. grind arith))))
+
   head_reads : (i : ℕ) → Reads s last i (UpTo last) (head_at w i) (λ y. y.1) (λ y. shown_head s y.0) head_bytes KeptHead
   head_reads i =
       whole
       (coded w is (i + 1) refl (λ a. kind_of a i) kind_code (kinds i) (λ h. h.kind) (λ n h. h)
       (λ kind _. coded w is (i + 2) (omega arith) (λ a. flags_of a (i + 1)) flagged_code (flags (i + 1)) (λ h. (h.flags, h.present)) (λ n h. h)
-      (λ flag _. coded w is (i + 3) (omega arith) (λ a. key_kind_of a (i + 2)) key_code (keys (i + 2)) (λ h. h.key.kind) (λ n h. h)
-      (λ k _. final (λ h. h.key.text) (λ d kept h. record { short = kept.short; named = λ e. kept.named (ap₂ names_key h.0.0.1 h.1 ∙ e) }) (λ n h. h)
-      (piece_reads s w last (i + 3) is (key kind k) (names_key kind k) (makes_key kind k))
-      (λ q _ kept _ _. done (record { kind = kind; flags = flag.0; present = flag.1; key = record { kind = k; text = place_of q } }, end (place_of q)) refl (λ h. h)
+      (λ flag _. final (λ h. h.key) (λ d kept h. subst (λ of. KeptKey of d.key) h.0.1 kept) (λ n h. h)
+      (key_reads kind (i + 2))
+      (λ k _ kept _ _. done (record { kind = kind; flags = flag.0; present = flag.1; key = k.0 }, k.1) refl (λ h. h)
       kept (search rules)
       (λ d _ h ι. record {
-        kind = sym h.0.0.0.1 ι;
-        flags = (sym h.0.0.1 ι).0;
-        present = (sym h.0.0.1 ι).1;
-        key = record { kind = sym h.0.1 ι; text = sym h.1 ι };
-      }))))))
+        kind = sym h.0.0.1 ι;
+        flags = (sym h.0.1 ι).0;
+        present = (sym h.0.1 ι).1;
+        key = sym h.1 ι;
+      })))))
 
   -- of a constructor or of another member
   abbrev body_if : Bool → ℕ → Result (Body × ℕ) ReadFault

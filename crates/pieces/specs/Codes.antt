@@ -1,5 +1,5 @@
 -- The codes of a member, each with what it stands for.
-use Rattle.std.specs.Prelude.{ℕ, ◌+◌, ◌/◌, ◌%◌, Bool, true, false, cond, List, [], ◌∷◌, Ok, Err, Result, ◌==◌, nat_lt}
+use Rattle.std.specs.Prelude.{◌≡◌, ℕ, ◌+◌, ◌/◌, ◌%◌, Bool, true, false, cond, List, [], ◌∷◌, Ok, Err, Result, ◌==◌, nat_lt}
 use Rattle.formats.specs.declared.ReadFault.{ReadFault}
 use Rattle.formats.specs.declared.ReadFault.TheVariants.{Unknown}
 use Rattle.pieces.specs.declared.codes.Kind.{Kind}
@@ -11,11 +11,23 @@ use Rattle.pieces.specs.declared.codes.Shape.TheVariants as shape
 use Rattle.pieces.specs.declared.codes.Form.{Form}
 use Rattle.pieces.specs.declared.codes.Form.TheVariants as form
 use Rattle.pieces.specs.declared.codes.Flags.{Flags}
+use Rattle.pieces.specs.declared.codes.FlagByte.{FlagByte}
+use Rattle.pieces.specs.declared.codes.UnknownCode.{UnknownCode}
+use Rattle.formats.specs.Readers.{then, faulted}
+use Rattle.formats.specs.Reading.{byte_at}
 
 -- the one of `ks` whose code is `a`, which stands at `at`
 abbrev pub decoded : {K : Type 0} → (K → ℕ) → List K → ℕ → ℕ → Result K ReadFault
 decoded code [] a at = Err (Unknown at)
 decoded code (k ∷ ks) a at = cond (a == code k) (Ok k) (decoded code ks a at)
+
+-- what a byte is taken for: the one of `ks` whose code it is, and at any place the fault of a byte that is no code
+abbrev pub Decodes : {K : Type 0} → (K → ℕ) → List K → ℕ → Result K UnknownCode → Type 0
+Decodes code ks a r = (at : ℕ) → faulted (λ _. Unknown at) r ≡ decoded code ks a at
+
+-- a byte that is read as something
+abbrev pub code_and_next : {K : Type 0} → (ℕ → ℕ → Result K ReadFault) → List ℕ → ℕ → Result (K × ℕ) ReadFault
+code_and_next of s at = then (byte_at s at) (λ a. then (of a at) (λ k. Ok (k, at + 1)))
 
 abbrev pub kind_code : Kind → ℕ
 kind_code kind.Field = 0
@@ -84,6 +96,13 @@ flags_of a at =
       flag 4 a,
     ))
     (Err (Unknown at))
+
+-- the flags, and whether the value or body is there
+abbrev pub flag_byte_of : ℕ → ℕ → Result FlagByte ReadFault
+flag_byte_of a at = then (flags_of a at) (λ f. Ok (record { flags = f.0; present = f.1 }))
+
+abbrev pub HasFlags : ℕ → Result FlagByte UnknownCode → Type 0
+HasFlags a r = (at : ℕ) → faulted (λ _. Unknown at) r ≡ flag_byte_of a at
 
 -- the value of a flag, where it is set
 abbrev pub bit : Bool → ℕ → ℕ

@@ -1,11 +1,13 @@
 -- The fields of a member as a sheet has them.
 use Rattle.std.specs.Prelude.{ℕ, ◌+◌, cond, List, length, Ok, Err, Result, nat_lt}
+use Rattle.formats.specs.declared.Place.{Place}
 use Rattle.formats.specs.declared.ReadFault.{ReadFault}
 use Rattle.formats.specs.declared.ReadFault.TheVariants.{Spare}
 use Rattle.formats.specs.Readers.{then}
 use Rattle.formats.specs.Reading.{end, byte_at}
 use Rattle.lists.specs.Listed.{listed, Reader, counted}
 use Rattle.pieces.specs.declared.codes.Kind.{Kind}
+use Rattle.pieces.specs.declared.parts.Key.{Key}
 use Rattle.pieces.specs.declared.parts.Decorator.{Decorator}
 use Rattle.pieces.specs.declared.parts.Parameter.{Parameter}
 use Rattle.pieces.specs.Codes.{kind_of, flags_of, key_kind_of}
@@ -17,19 +19,26 @@ use Rattle.pieces.specs.declared.fields.Head.{Head}
 use Rattle.pieces.specs.declared.fields.Written.{Written}
 use Rattle.pieces.specs.Bodies.{is_constructor}
 
+-- the key of a member of the kind `of`
+abbrev pub key_at : List ℕ → Kind → Reader Key
+key_at s of at =
+    then (byte_at s at)
+    (λ c. then (key_kind_of c at)
+    (λ k. then (piece_at s (key of k) (at + 1))
+    (λ p. Ok (record { kind = k; text = place_of p }, end (place_of p)))))
+
 abbrev pub head_at : List ℕ → Reader Head
 head_at s at =
     then (byte_at s at)
     (λ a. then (kind_of a at)
     (λ kind. then (byte_at s (at + 1))
     (λ b. then (flags_of b (at + 1))
-    (λ flags. then (byte_at s (at + 2))
-    (λ c. then (key_kind_of c (at + 2))
-    (λ k. then (piece_at s (key kind k) (at + 3))
-    (λ p. Ok (
-      record { kind = kind; flags = flags.0; present = flags.1; key = record { kind = k; text = place_of p } },
-      end (place_of p),
-    ))))))))
+    (λ flags. then (key_at s kind (at + 2))
+    (λ k. Ok (record { kind = kind; flags = flags.0; present = flags.1; key = k.0 }, k.1))))))
+
+-- a text of a value or body, which can be any
+abbrev pub body_text_at : List ℕ → Reader Place
+body_text_at s at = then (piece_at s body at) (λ p. Ok (place_of p, end (place_of p)))
 
 -- one text, or a constructor's two
 abbrev pub body_at : List ℕ → Kind → Reader Body

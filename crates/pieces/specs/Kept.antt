@@ -3,8 +3,9 @@ use Rattle.std.specs.Prelude.{◌≡◌, ℕ, ◌≤◌, Bool, true, false, List
 use Rattle.std.specs.List.{AllByRecursion}
 use Rattle.formats.specs.Bytes.{Short}
 use Rattle.formats.specs.Names.{is_name}
+use Rattle.pieces.specs.declared.codes.Kind.{Kind}
 use Rattle.pieces.specs.Bodies.{is_constructor}
-use Rattle.pieces.specs.Described.{DecoratorText, ParameterText, HeadText, BodyText, one_text, head_and_tail, MemberText}
+use Rattle.pieces.specs.Described.{KeyText, DecoratorText, ParameterText, HeadText, BodyText, one_text, head_and_tail, MemberText}
 use Rattle.pieces.specs.Parts.{names_key, names_shape, names_form}
 
 -- a text that is a name where it has to be one
@@ -18,8 +19,11 @@ KeptDecorator d = KeptText (names_shape d.shape) d.text
 abbrev pub KeptParameter : ParameterText → Type 0
 KeptParameter p = KeptText (names_form p.form) p.text
 
+abbrev pub KeptKey : Kind → KeyText → Type 0
+KeptKey of k = KeptText (names_key of k.kind) k.text
+
 abbrev pub KeptHead : HeadText → Type 0
-KeptHead h = KeptText (names_key h.kind h.key.kind) h.key.text
+KeptHead h = KeptKey h.kind h.key
 
 -- of a constructor, or of another member
 abbrev pub KeptBody : Bool → BodyText → Type 0

@@ -3,6 +3,7 @@ use Rattle.std.specs.Prelude.{ℕ, Bool, false, cond, not, ◌&&◌, ◌||◌, L
 use Rattle.formats.specs.declared.Place.{Place}
 use Rattle.formats.specs.declared.ReadFault.{ReadFault}
 use Rattle.formats.specs.declared.ReadFault.TheVariants.{NoName}
+use Rattle.formats.specs.Cursors.{Placed}
 use Rattle.formats.specs.Names.{is_name}
 use Rattle.formats.specs.Readers.{then}
 use Rattle.formats.specs.Reading.{text_at, bytes_at}
@@ -27,10 +28,10 @@ pub data Part : Type 0 where
   body : List ℕ → Place → Part
 
 abbrev pub part : Piece → Part
-part (Key of kind bytes place) = key of kind bytes.now place
-part (Decorator shape bytes place) = decorator shape bytes.now place
-part (Parameter form bytes place) = parameter form bytes.now place
-part (Body bytes place) = body bytes.now place
+part (Key of kind text) = key of kind text.bytes.now text.place
+part (Decorator shape text) = decorator shape text.bytes.now text.place
+part (Parameter form text) = parameter form text.bytes.now text.place
+part (Body text) = body text.bytes.now text.place
 
 abbrev pub place_of : Part → Place
 place_of (key of kind bytes place) = place
@@ -43,6 +44,9 @@ bytes_in (key of kind bytes place) = bytes
 bytes_in (decorator shape bytes place) = bytes
 bytes_in (parameter form bytes place) = bytes
 bytes_in (body bytes place) = bytes
+
+abbrev pub text_in : Part → Placed
+text_in p = record { bytes = bytes_in p; place = place_of p }
 
 -- identifiers, computed or not, are names; but constructors and others have no key to be named by
 abbrev pub names_key : Kind → KeyKind → Bool

@@ -1,8 +1,13 @@
 //! The codes of a member: its kind, its flags, and the kinds of its key, decorators and parameters.
-ghost use Rattle.std.specs.Prelude.{◌≡◌};
-ghost use Rattle.pieces.specs.Codes.{kind_of, key_kind_of, shape_of, form_of, flags_of};
+ghost use Rattle.std.specs.Prelude.{◌≡◌, ◌<◌, ℕ, Result};
+ghost use Rattle.formats.specs.declared.ReadFault.{ReadFault};
+ghost use Rattle.formats.specs.declared.ReadFault.TheVariants.{Unknown};
+ghost use Rattle.formats.specs.Cursors.{bytes_in, with_next};
+ghost use Rattle.formats.specs.Readers.{faulted};
+ghost use Rattle.pieces.specs.declared.codes.UnknownCode.{UnknownCode};
+ghost use Rattle.pieces.specs.Codes.{Decodes, kind_code, all_kinds, kind_of, key_code, all_key_kinds, key_kind_of, shape_code, all_shapes, shape_of, form_code, all_forms, form_of, flag, flag_byte_of, code_and_next, HasFlags};
 
-use formats::ReadFault;
+use formats::{Cursor, ReadFault};
 
 /// What a member is.
 #[derive(Clone, Copy)]
@@ -30,17 +35,19 @@ pub enum KeyKind {
 }
 
 /// What expression a decorator is.
-#[derive(Clone, Copy)]
+#[derive(Clone, Copy, Default)]
 pub enum Shape {
     Identifier,
     Arrow,
     Function,
+    #[default]
     Other,
 }
 
 /// What a parameter is: a plain identifier, or a pattern, a rest parameter or one with a default.
-#[derive(Clone, Copy)]
+#[derive(Clone, Copy, Default)]
 pub enum Form {
+    #[default]
     Other,
     Plain,
 }
@@ -55,11 +62,24 @@ pub struct Flags {
     pub is_declared: bool,
 }
 
-impl Kind {
-    /// The kind of the code that stands at `at`.
-    pub(crate) fn of(code: u8, at: usize) -> Result<Kind, ReadFault>
-        ensures { result ≡ kind_of code at }
-    {
+/// The flags of a member as its sheet has them.
+#[derive(Clone, Copy)]
+pub struct FlagByte {
+    pub flags: Flags,
+    /// Whether the value or body is there.
+    pub present: bool,
+}
+
+/// A byte that stands for nothing.
+#[derive(Clone, Copy)]
+pub struct UnknownCode;
+
+impl TryFrom<u8> for Kind {
+    type Error = UnknownCode;
+
+    ghost try_from_gives = { Decodes kind_code all_kinds };
+
+    fn try_from(code: u8) -> Result<Kind, UnknownCode> {
         match code {
             0 => Ok(Kind::Field),
             1 => Ok(Kind::Accessor),
@@ -68,69 +88,147 @@ impl Kind {
             4 => Ok(Kind::Setter),
             5 => Ok(Kind::Constructor),
             6 => Ok(Kind::Other),
-            _ => Err(ReadFault::Unknown { at }),
+            _ => Err(UnknownCode),
         }
     }
 }
 
-impl KeyKind {
-    /// The key kind of the code that stands at `at`.
-    pub(crate) fn of(code: u8, at: usize) -> Result<KeyKind, ReadFault>
-        ensures { result ≡ key_kind_of code at }
-    {
+impl From<Kind> for u8 {
+    ghost from_gives = { λ kind code. code ≡ kind_code kind };
+
+    fn from(kind: Kind) -> u8 {
+        match kind {
+            Kind::Field => 0,
+            Kind::Accessor => 1,
+            Kind::Method => 2,
+            Kind::Getter => 3,
+            Kind::Setter => 4,
+            Kind::Constructor => 5,
+            Kind::Other => 6,
+        }
+    }
+}
+
+impl TryFrom<u8> for KeyKind {
+    type Error = UnknownCode;
+
+    ghost try_from_gives = { Decodes key_code all_key_kinds };
+
+    fn try_from(code: u8) -> Result<KeyKind, UnknownCode> {
         match code {
             0 => Ok(KeyKind::Identifier),
             1 => Ok(KeyKind::Literal),
             2 => Ok(KeyKind::ComputedIdentifier),
             3 => Ok(KeyKind::Computed),
-            _ => Err(ReadFault::Unknown { at }),
+            _ => Err(UnknownCode),
         }
     }
 }
 
-impl Shape {
-    /// The shape of the code that stands at `at`.
-    pub(crate) fn of(code: u8, at: usize) -> Result<Shape, ReadFault>
-        ensures { result ≡ shape_of code at }
-    {
+impl TryFrom<u8> for Shape {
+    type Error = UnknownCode;
+
+    ghost try_from_gives = { Decodes shape_code all_shapes };
+
+    fn try_from(code: u8) -> Result<Shape, UnknownCode> {
         match code {
             0 => Ok(Shape::Identifier),
             1 => Ok(Shape::Arrow),
             2 => Ok(Shape::Function),
             3 => Ok(Shape::Other),
-            _ => Err(ReadFault::Unknown { at }),
+            _ => Err(UnknownCode),
         }
     }
 }
 
-impl Form {
-    /// The form of the code that stands at `at`.
-    pub(crate) fn of(code: u8, at: usize) -> Result<Form, ReadFault>
-        ensures { result ≡ form_of code at }
-    {
+impl TryFrom<u8> for Form {
+    type Error = UnknownCode;
+
+    ghost try_from_gives = { Decodes form_code all_forms };
+
+    fn try_from(code: u8) -> Result<Form, UnknownCode> {
         match code {
             0 => Ok(Form::Other),
             1 => Ok(Form::Plain),
-            _ => Err(ReadFault::Unknown { at }),
+            _ => Err(UnknownCode),
         }
     }
 }
 
-impl Flags {
-    /// The flags of the byte that stands at `at`, and whether the value or body is there.
-    pub(crate) fn of(code: u8, at: usize) -> Result<(Flags, bool), ReadFault>
-        ensures { result ≡ flags_of code at }
-    {
+/// Whether the flag of this value is set.
+fn has_flag(code: u8, value: u8) -> bool
+    requires { 0 < value }
+    ensures { result ≡ flag value code }
+{
+    code / value % 2 == 1
+}
+
+impl TryFrom<u8> for FlagByte {
+    type Error = UnknownCode;
+
+    ghost try_from_gives = { HasFlags };
+
+    fn try_from(code: u8) -> Result<FlagByte, UnknownCode> {
         if code >= 64 {
-            return Err(ReadFault::Unknown { at });
+            return Err(UnknownCode);
         }
         let flags = Flags {
-            is_static: code % 2 == 1,
-            is_private: code / 2 % 2 == 1,
-            is_async: code / 8 % 2 == 1,
-            is_generator: code / 16 % 2 == 1,
-            is_declared: code / 32 % 2 == 1,
+            is_static: has_flag(code, 1),
+            is_private: has_flag(code, 2),
+            is_async: has_flag(code, 8),
+            is_generator: has_flag(code, 16),
+            is_declared: has_flag(code, 32),
         };
-        Ok((flags, code / 4 % 2 == 1))
+        let present = has_flag(code, 4);
+        Ok(FlagByte { flags, present })
     }
+}
+
+/// What a byte of a member can stand for.
+pub(crate) trait Code: TryFrom<u8, Error = UnknownCode> {
+    /// What a byte at some place of a sheet is read as.
+    ghost read_as: { ℕ → ℕ → Result Self ReadFault };
+
+    /// It is read as what it is taken for.
+    ghost is_read: { (a : ℕ) (r : Result Self UnknownCode) → Self.try_from_gives a r → (at : ℕ) → faulted (λ _. Unknown at) r ≡ read_as a at };
+}
+
+impl Code for Kind {
+    ghost read_as = { kind_of };
+
+    ghost is_read = { λ a r h at. h at };
+}
+
+impl Code for KeyKind {
+    ghost read_as = { key_kind_of };
+
+    ghost is_read = { λ a r h at. h at };
+}
+
+impl Code for Shape {
+    ghost read_as = { shape_of };
+
+    ghost is_read = { λ a r h at. h at };
+}
+
+impl Code for Form {
+    ghost read_as = { form_of };
+
+    ghost is_read = { λ a r h at. h at };
+}
+
+impl Code for FlagByte {
+    ghost read_as = { flag_byte_of };
+
+    ghost is_read = { λ a r h at. h at };
+}
+
+/// The next byte, as what it stands for.
+pub(crate) fn read_code<T: Code>(cursor: &mut Cursor<'_>) -> Result<T, ReadFault>
+    ensures code { with_next result cursor.new.at ≡ code_and_next T.Code.read_as (bytes_in cursor.old) cursor.old.at }
+    ensures sheet { cursor.new.sheet ≡ cursor.old.sheet }
+{
+    let at = cursor.at;
+    let byte = cursor.byte()?;
+    T::try_from(byte).map_err(|_| ReadFault::Unknown { at })
 }

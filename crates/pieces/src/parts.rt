@@ -2,9 +2,9 @@
 ghost use Rattle.std.specs.Prelude.{◌≡◌};
 ghost use Rattle.pieces.specs.Items.{decorator_at, parameter_at};
 
-use crate::codes::{Form, KeyKind, Shape};
-use crate::piece::{decorator_at, parameter_at};
-use formats::{Place, ReadFault, Sheet};
+use crate::codes::{Form, KeyKind, Shape, read_code};
+use crate::piece::Piece;
+use formats::{Cursor, Place, ReadFault};
 use lists::Item;
 
 #[derive(Clone, Copy)]
@@ -13,13 +13,13 @@ pub struct Key {
     pub text: Place,
 }
 
-#[derive(Clone, Copy)]
+#[derive(Clone, Copy, Default)]
 pub struct Decorator {
     pub shape: Shape,
     pub text: Place,
 }
 
-#[derive(Clone, Copy)]
+#[derive(Clone, Copy, Default)]
 pub struct Parameter {
     pub form: Form,
     pub text: Place,
@@ -36,41 +36,25 @@ pub enum Body {
 impl Item for Decorator {
     ghost reads = { decorator_at };
 
-    fn read(sheet: Sheet<'_>, at: usize) -> Result<(Decorator, usize), ReadFault> {
-        let shape = Shape::of(sheet.byte(at)?, at)?;
-        let piece = decorator_at(sheet, shape, at + 1)?;
-        let text = piece.place();
-        Ok((Decorator { shape, text }, text.end()))
-    }
-
-    fn filler() -> Decorator {
-        Decorator {
-            shape: Shape::Other,
-            text: Place {
-                start: 0,
-                length: 0,
-            },
-        }
+    fn read(cursor: &mut Cursor<'_>) -> Result<Decorator, ReadFault> {
+        let shape = read_code(cursor)?;
+        let at = cursor.at;
+        let text = cursor.text()?;
+        Piece::Decorator { shape, text }.checked(at)?;
+        let text = text.place;
+        Ok(Decorator { shape, text })
     }
 }
 
 impl Item for Parameter {
     ghost reads = { parameter_at };
 
-    fn read(sheet: Sheet<'_>, at: usize) -> Result<(Parameter, usize), ReadFault> {
-        let form = Form::of(sheet.byte(at)?, at)?;
-        let piece = parameter_at(sheet, form, at + 1)?;
-        let text = piece.place();
-        Ok((Parameter { form, text }, text.end()))
-    }
-
-    fn filler() -> Parameter {
-        Parameter {
-            form: Form::Other,
-            text: Place {
-                start: 0,
-                length: 0,
-            },
-        }
+    fn read(cursor: &mut Cursor<'_>) -> Result<Parameter, ReadFault> {
+        let form = read_code(cursor)?;
+        let at = cursor.at;
+        let text = cursor.text()?;
+        Piece::Parameter { form, text }.checked(at)?;
+        let text = text.place;
+        Ok(Parameter { form, text })
     }
 }

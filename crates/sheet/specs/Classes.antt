@@ -34,8 +34,8 @@ class_at s =
 abbrev pub sheet_at : List ℕ → Result SeenClass (Option Numbered)
 sheet_at s = cond (nat_lt 65535 (length s)) (Err (reading (Spare 65535))) (class_at s)
 
-abbrev pub seen_members : Result (Vec Member Global × ℕ) Refusal → Result (List Seen × ℕ) (Option Numbered)
-seen_members (Ok x) = Ok (map seen_member (vec_items x.0), x.1)
+abbrev pub seen_members : Result (Vec Member Global) Refusal → Result (List Seen) (Option Numbered)
+seen_members (Ok ms) = Ok (map seen_member (vec_items ms))
 seen_members (Err e) = Err (refusal_of e)
 
 abbrev pub seen_class : Class → SeenClass

@@ -54,6 +54,6 @@ abbrev pub made_in : Result Member MemberFault → Result Seen MemberFault
 made_in (Ok m) = Ok (seen_member m)
 made_in (Err e) = Err e
 
-abbrev pub seen : Result (Member × ℕ) Refusal → Result (Seen × ℕ) (Option Numbered)
-seen (Ok x) = Ok (seen_member x.0, x.1)
+abbrev pub seen : Result Member Refusal → Result Seen (Option Numbered)
+seen (Ok m) = Ok (seen_member m)
 seen (Err e) = Err (refusal_of e)

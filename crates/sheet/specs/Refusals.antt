@@ -1,20 +1,13 @@
 -- What every refusal is told as: its number, its layer and its place.
 use Rattle.std.specs.Prelude.{Some, None, Option}
 use Rattle.formats.specs.declared.ReadFault.{ReadFault}
-use Rattle.formats.specs.declared.ReadFault.TheVariants.{Version, CutShort, Spare, Unknown, NoName}
+use Rattle.formats.specs.Refusals.{reading_refusal}
 use Rattle.sheet.specs.declared.refusal.MemberFault.{MemberFault}
 use Rattle.sheet.specs.declared.refusal.MemberFault.TheVariants.{BrokenRule, SetterParameter}
 use Rattle.refusals.specs.declared.Layer.TheVariants as layers
 use Rattle.refusals.specs.declared.Numbered.{Numbered}
 use Rattle.sheet.specs.declared.refusal.Refusal.{Refusal}
 use Rattle.sheet.specs.declared.refusal.Refusal.TheVariants.{Reading, Members, Memory}
-
-abbrev pub reading_refusal : ReadFault → Numbered
-reading_refusal Version = record { number = 1; layer = layers.Reading; place = 0 }
-reading_refusal (CutShort at) = record { number = 2; layer = layers.Reading; place = at }
-reading_refusal (Spare at) = record { number = 3; layer = layers.Reading; place = at }
-reading_refusal (Unknown at) = record { number = 4; layer = layers.Reading; place = at }
-reading_refusal (NoName at) = record { number = 5; layer = layers.Reading; place = at }
 
 abbrev pub members_refusal : MemberFault → Numbered
 members_refusal (BrokenRule at) = record { number = 6; layer = layers.Members; place = at }

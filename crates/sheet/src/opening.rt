@@ -1,9 +1,9 @@
 //! What stands before the members: version, class name, superclass, and how many members there are.
 ghost use Rattle.std.specs.Prelude.{◌≡◌};
-ghost use Rattle.formats.specs.Reading.{bytes_of};
+ghost use Rattle.formats.specs.Cursors.{bytes_in, with_next};
 ghost use Rattle.sheet.specs.Opening.{opening_at};
 
-use formats::{Place, ReadFault, Sheet, is_name};
+use formats::{Cursor, Place, ReadFault, is_name};
 
 pub const MOST_MEMBERS: usize = 64;
 
@@ -15,30 +15,31 @@ pub struct Opening {
     pub count: usize,
 }
 
-/// What the sheet begins with, and where its first member begins.
-pub(crate) fn read_opening(sheet: Sheet<'_>) -> Result<(Opening, usize), ReadFault>
-    ensures { result ≡ opening_at (bytes_of sheet.entry) }
+/// What the sheet begins with.
+pub(crate) fn read_opening(cursor: &mut Cursor<'_>) -> Result<Opening, ReadFault>
+    requires { cursor.old.at ≡ 0 }
+    ensures opening { with_next result cursor.new.at ≡ opening_at (bytes_in cursor.old) }
+    ensures sheet { cursor.new.sheet ≡ cursor.old.sheet }
 {
-    if sheet.byte(0)? != 1 {
+    if cursor.byte()? != 1 {
         return Err(ReadFault::Version);
     }
-    let name = sheet.text(1)?;
-    if !is_name(sheet.part(name)) {
-        return Err(ReadFault::NoName { at: 1 });
+    let at = cursor.at;
+    let name = cursor.text()?;
+    if !is_name(name.bytes) {
+        return Err(ReadFault::NoName { at });
     }
-    let text = sheet.text(name.end())?;
-    let superclass = if text.length == 0 { None } else { Some(text) };
-    let at = text.end();
-    let count = sheet.byte(at)? as usize;
+    let name = name.place;
+    let text = cursor.text()?.place;
+    let superclass = (text.length != 0).then_some(text);
+    let at = cursor.at;
+    let count = usize::from(cursor.byte()?);
     if count > MOST_MEMBERS {
         return Err(ReadFault::Unknown { at });
     }
-    Ok((
-        Opening {
-            name,
-            superclass,
-            count,
-        },
-        at + 1,
-    ))
+    Ok(Opening {
+        name,
+        superclass,
+        count,
+    })
 }

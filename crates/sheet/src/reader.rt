@@ -1,13 +1,13 @@
 //! Reads a member, and then looks at its rules.
 ghost use Rattle.std.specs.Prelude.{◌≡◌};
-ghost use Rattle.formats.specs.Reading.{bytes_of};
+ghost use Rattle.formats.specs.Cursors.{bytes_in, with_next};
 ghost use Rattle.pieces.specs.Fields.{seen_written};
 ghost use Rattle.sheet.specs.Members.{is_blank, body_of, member_of, made_in, member_at, seen};
 
 use crate::member::Member;
 use crate::parts::Parts;
 use crate::refusal::{MemberFault, Refusal};
-use formats::Sheet;
+use formats::Cursor;
 use pieces::fields::{Written, read_fields};
 use pieces::parts::Body;
 
@@ -50,13 +50,13 @@ fn member_of(written: Written, at: usize) -> Result<Member, MemberFault>
     Member::new(parts, at)
 }
 
-/// The member at `at`, and where the next one begins.
-pub(crate) fn read_member(sheet: Sheet<'_>, at: usize) -> Result<(Member, usize), Refusal>
-    ensures { seen result ≡ member_at (bytes_of sheet.entry) at }
+/// The next member.
+pub(crate) fn read_member(cursor: &mut Cursor<'_>) -> Result<Member, Refusal>
+    ensures member { with_next (seen result) cursor.new.at ≡ member_at (bytes_in cursor.old) cursor.old.at }
+    ensures sheet { cursor.new.sheet ≡ cursor.old.sheet }
 {
-    let rest = sheet.text(at)?;
-    let end = rest.end();
-    let written = read_fields(sheet.up_to(end), rest.start as usize)?;
-    let member = member_of(written, at)?;
-    Ok((member, end))
+    let at = cursor.at;
+    let rest = cursor.text()?.place;
+    let written = read_fields(&mut cursor.within(rest))?;
+    Ok(member_of(written, at)?)
 }

@@ -1,7 +1,7 @@
 //! Why a sheet is refused.
 ghost use Rattle.std.specs.Prelude.{◌≡◌};
 ghost use Rattle.sheet.specs.declared.refusal.Refusal.TheVariants.{Reading, Members, Memory};
-ghost use Rattle.sheet.specs.Refusals.{refusal_of};
+ghost use Rattle.sheet.specs.Refusals.{members_refusal, refusal_of};
 
 use formats::ReadFault;
 use refusals::{Layer, Numbered};
@@ -14,6 +14,22 @@ pub enum MemberFault {
     BrokenRule { at: usize },
     /// The first parameter of a decorated private setter is missing, or no plain identifier.
     SetterParameter { at: usize },
+}
+
+impl From<MemberFault> for Numbered {
+    ghost from_gives = { λ fault told. told ≡ members_refusal fault };
+
+    fn from(fault: MemberFault) -> Numbered {
+        let (number, layer, place) = match fault {
+            MemberFault::BrokenRule { at } => (6, Layer::Members, at),
+            MemberFault::SetterParameter { at } => (7, Layer::Members, at),
+        };
+        Numbered {
+            number,
+            layer,
+            place,
+        }
+    }
 }
 
 /// Why there is no class: the sheet is refused, or memory is wanting.
@@ -53,20 +69,10 @@ impl Refusal {
     pub fn numbered(self) -> Option<Numbered>
         ensures { result ≡ refusal_of self }
     {
-        let (number, layer, place) = match self {
-            Refusal::Reading(ReadFault::Version) => (1, Layer::Reading, 0),
-            Refusal::Reading(ReadFault::CutShort { at }) => (2, Layer::Reading, at),
-            Refusal::Reading(ReadFault::Spare { at }) => (3, Layer::Reading, at),
-            Refusal::Reading(ReadFault::Unknown { at }) => (4, Layer::Reading, at),
-            Refusal::Reading(ReadFault::NoName { at }) => (5, Layer::Reading, at),
-            Refusal::Members(MemberFault::BrokenRule { at }) => (6, Layer::Members, at),
-            Refusal::Members(MemberFault::SetterParameter { at }) => (7, Layer::Members, at),
-            Refusal::Memory => return None,
-        };
-        Some(Numbered {
-            number,
-            layer,
-            place,
-        })
+        match self {
+            Refusal::Reading(fault) => Some(fault.into()),
+            Refusal::Members(fault) => Some(fault.into()),
+            Refusal::Memory => None,
+        }
     }
 }

@@ -1,5 +1,7 @@
 //! Reads a whole sheet.
+ghost use Rattle.std.specs.Prelude.{◌≡◌};
 ghost use Rattle.formats.specs.Reading.{bytes_of};
+ghost use Rattle.formats.specs.Cursors.{bytes_in, with_next};
 ghost use Rattle.sheet.specs.Claims.{AcceptedIsLaidOut, LaidOutIsRead};
 ghost use Rattle.sheet.specs.Classes.{members_at, class_at, sheet_at, seen_members, seen_sheet, Answers, Opened};
 
@@ -8,35 +10,30 @@ use crate::member::Member;
 use crate::opening::read_opening;
 use crate::reader::read_member;
 use crate::refusal::Refusal;
-use formats::{MOST_BYTES, ReadFault, Sheet};
+use formats::{Cursor, MOST_BYTES, ReadFault, Sheet};
 use std::alloc::Global;
 
-/// So many members from `at` on, and where the next one would begin.
-fn read_members(
-    heap: Global,
-    sheet: Sheet<'_>,
-    count: usize,
-    at: usize,
-) -> Result<(Vec<Member>, usize), Refusal>
-    ensures { Answers Unit (seen_members result) (members_at (bytes_of sheet.entry) count at) }
+/// So many members.
+fn read_members(heap: Global, cursor: &mut Cursor<'_>, count: usize) -> Result<Vec<Member>, Refusal>
+    ensures members { Answers Unit (with_next (seen_members result) cursor.new.at) (members_at (bytes_in cursor.old) count cursor.old.at) }
+    ensures sheet { cursor.new.sheet ≡ cursor.old.sheet }
 {
     let mut members = Vec::with_capacity(heap, count)?;
-    let mut next = at;
-    for i in 0..count {
-        let (member, after) = read_member(sheet, next)?;
+    for _ in 0..count {
+        let member = read_member(cursor)?;
         members.push_reserved(member);
-        next = after;
     }
-    Ok((members, next))
+    Ok(members)
 }
 
 fn read_class(heap: Global, sheet: Sheet<'_>) -> Result<Class, Refusal>
     ensures { Answers (Opened (bytes_of sheet.entry)) (seen_sheet result) (class_at (bytes_of sheet.entry)) }
 {
-    let (opening, at) = read_opening(sheet)?;
-    let (members, next) = read_members(heap, sheet, opening.count, at)?;
-    if next < sheet.len() {
-        return Err(Refusal::from(ReadFault::Spare { at: next }));
+    let mut cursor = Cursor::new(sheet, 0);
+    let opening = read_opening(&mut cursor)?;
+    let members = read_members(heap, &mut cursor, opening.count)?;
+    if !cursor.is_at_end() {
+        return Err(ReadFault::Spare { at: cursor.at }.into());
     }
     Ok(Class {
         name: opening.name,
@@ -49,7 +46,7 @@ fn read_bytes(heap: Global, bytes: &[u8]) -> Result<Class, Refusal>
     ensures { Answers (Opened bytes.now) (seen_sheet result) (sheet_at bytes.now) }
 {
     if bytes.len() > MOST_BYTES {
-        return Err(Refusal::from(ReadFault::Spare { at: MOST_BYTES }));
+        return Err(ReadFault::Spare { at: MOST_BYTES }.into());
     }
     read_class(heap, Sheet::first(bytes))
 }

@@ -1,61 +1,78 @@
 //! Reads the fields of a member.
 ghost use Rattle.std.specs.Prelude.{◌≡◌};
-ghost use Rattle.formats.specs.Reading.{bytes_of};
-ghost use Rattle.pieces.specs.Fields.{head_at, body_at, fields_at, seen_fields};
+ghost use Rattle.formats.specs.Cursors.{bytes_in, with_next};
+ghost use Rattle.pieces.specs.Fields.{key_at, head_at, body_text_at, body_at, fields_at, seen_fields};
 
 use super::{Head, MOST_DECORATORS, MOST_PARAMETERS, Written};
-use crate::codes::{Flags, KeyKind, Kind};
+use crate::codes::{FlagByte, Kind, read_code};
 use crate::parts::{Body, Decorator, Key, Parameter};
-use crate::piece::{body_at, key_at};
-use formats::{ReadFault, Sheet};
+use crate::piece::Piece;
+use formats::{Cursor, Place, ReadFault};
 use lists::read_list;
 
-/// The kind, the flags and the key at `at`, and where the next field begins.
-fn read_head(sheet: Sheet<'_>, at: usize) -> Result<(Head, usize), ReadFault>
-    ensures { result ≡ head_at (bytes_of sheet.entry) at }
+/// The next key, of a member of the kind `of`.
+fn read_key(cursor: &mut Cursor<'_>, of: Kind) -> Result<Key, ReadFault>
+    ensures key { with_next result cursor.new.at ≡ key_at (bytes_in cursor.old) of cursor.old.at }
+    ensures sheet { cursor.new.sheet ≡ cursor.old.sheet }
 {
-    let kind = Kind::of(sheet.byte(at)?, at)?;
-    let (flags, present) = Flags::of(sheet.byte(at + 1)?, at + 1)?;
-    let key_kind = KeyKind::of(sheet.byte(at + 2)?, at + 2)?;
-    let piece = key_at(sheet, kind, key_kind, at + 3)?;
-    let text = piece.place();
-    let key = Key {
-        kind: key_kind,
-        text,
-    };
-    Ok((
-        Head {
-            kind,
-            flags,
-            present,
-            key,
-        },
-        text.end(),
-    ))
+    let kind = read_code(cursor)?;
+    let at = cursor.at;
+    let text = cursor.text()?;
+    Piece::Key { of, kind, text }.checked(at)?;
+    let text = text.place;
+    Ok(Key { kind, text })
 }
 
-/// The text at `at`, or the two texts of a constructor, and where the next field would begin.
-fn read_body(sheet: Sheet<'_>, kind: Kind, at: usize) -> Result<(Body, usize), ReadFault>
-    ensures { result ≡ body_at (bytes_of sheet.entry) kind at }
+/// The kind, the flags and the key, which come next.
+fn read_head(cursor: &mut Cursor<'_>) -> Result<Head, ReadFault>
+    ensures head { with_next result cursor.new.at ≡ head_at (bytes_in cursor.old) cursor.old.at }
+    ensures sheet { cursor.new.sheet ≡ cursor.old.sheet }
 {
-    let first = body_at(sheet, at)?.place();
-    let Kind::Constructor = kind else {
-        return Ok((Body::Text(first), first.end()));
-    };
-    let tail = body_at(sheet, first.end())?.place();
-    Ok((Body::Constructor { head: first, tail }, tail.end()))
+    let kind = read_code(cursor)?;
+    let FlagByte { flags, present } = read_code(cursor)?;
+    let key = read_key(cursor, kind)?;
+    Ok(Head {
+        kind,
+        flags,
+        present,
+        key,
+    })
 }
 
-/// The fields of the member that begin at `at` and end with the sheet.
-pub fn read_fields(sheet: Sheet<'_>, at: usize) -> Result<Written, ReadFault>
-    ensures { seen_fields result ≡ fields_at (bytes_of sheet.entry) at }
+/// The next text of a value, or of a body or a half of one.
+fn read_text(cursor: &mut Cursor<'_>) -> Result<Place, ReadFault>
+    ensures text { with_next result cursor.new.at ≡ body_text_at (bytes_in cursor.old) cursor.old.at }
+    ensures sheet { cursor.new.sheet ≡ cursor.old.sheet }
 {
-    let (head, next) = read_head(sheet, at)?;
-    let (decorators, next) = read_list::<Decorator, MOST_DECORATORS>(sheet, next)?;
-    let (parameters, next) = read_list::<Parameter, MOST_PARAMETERS>(sheet, next)?;
-    let (body, next) = read_body(sheet, head.kind, next)?;
-    if next < sheet.len() {
-        return Err(ReadFault::Spare { at: next });
+    let at = cursor.at;
+    let text = cursor.text()?;
+    Piece::Body(text).checked(at)?;
+    Ok(text.place)
+}
+
+/// The next text, or the two texts of a constructor.
+fn read_body(cursor: &mut Cursor<'_>, kind: Kind) -> Result<Body, ReadFault>
+    ensures body { with_next result cursor.new.at ≡ body_at (bytes_in cursor.old) kind cursor.old.at }
+    ensures sheet { cursor.new.sheet ≡ cursor.old.sheet }
+{
+    let first = read_text(cursor)?;
+    if !matches!(kind, Kind::Constructor) {
+        return Ok(Body::Text(first));
+    }
+    let tail = read_text(cursor)?;
+    Ok(Body::Constructor { head: first, tail })
+}
+
+/// The fields of the member that begin at the cursor and end with its sheet.
+pub fn read_fields(cursor: &mut Cursor<'_>) -> Result<Written, ReadFault>
+    ensures fields { seen_fields result ≡ fields_at (bytes_in cursor.old) cursor.old.at }
+{
+    let head = read_head(cursor)?;
+    let decorators = read_list::<Decorator, MOST_DECORATORS>(cursor)?;
+    let parameters = read_list::<Parameter, MOST_PARAMETERS>(cursor)?;
+    let body = read_body(cursor, head.kind)?;
+    if !cursor.is_at_end() {
+        return Err(ReadFault::Spare { at: cursor.at });
     }
     Ok(Written {
         head,

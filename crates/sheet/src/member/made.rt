@@ -7,7 +7,6 @@ ghost use Rattle.sheet.specs.Members.{ruled, seen_member, made_in};
 use super::Member;
 use crate::parts::Parts;
 use crate::refusal::MemberFault;
-use crate::rules::{is_lawful, is_settable};
 
 impl Member {
     /// The member at `at` of the sheet, of these parts, unless they break a rule.
@@ -15,10 +14,10 @@ impl Member {
         requires { fits parts.kind parts.body ≡ true }
         ensures { made_in result ≡ ruled (seen_parts parts) at }
     {
-        if !is_lawful(&parts) {
+        if !parts.is_lawful() {
             return Err(MemberFault::BrokenRule { at });
         }
-        if !is_settable(&parts) {
+        if !parts.is_settable() {
             return Err(MemberFault::SetterParameter { at });
         }
         Ok(Member { parts })

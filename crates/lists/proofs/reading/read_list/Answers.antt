@@ -5,5 +5,5 @@ use Rattle.lists.proofs.reading.read_list.Goals as goal
 pub returns-in_err-item : goal.returns-in_err-item
 returns-in_err-item g c = search (rules, items_more)
 
-pub loop-i-preserved : goal.loop-i-preserved
-loop-i-preserved g c = search (rules, items_more)
+pub loop-preserved : goal.loop-preserved
+loop-preserved g c = search (rules, items_more)
