@@ -10,6 +10,8 @@ mod reading;
 pub use reading::{Item, read_list};
 
 /// A list of at most `N` things: the first `len` of `items`, behind which stand fillers.
+///
+/// It lies in place and is copied, since a member is, and nothing may be allocated where a class is lowered.
 #[derive(Copy)]
 pub struct Bounded<T, const N: usize> {
     items: [T; N],

@@ -56,6 +56,7 @@ impl<T: Copy, const N: usize> Bounded<T, N> {
     }
 }
 
+// Written out, since it cannot be derived for a generic struct with ghost fields.
 impl<T: Copy, const N: usize> Clone for Bounded<T, N> {
     ghost is_clone = { λ x y. y ≡ x };
 

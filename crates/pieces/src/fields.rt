@@ -19,7 +19,8 @@ pub const MOST_PARAMETERS: usize = 16;
 pub struct Head {
     pub kind: Kind,
     pub flags: Flags,
-    /// Whether the value or body is there.
+    /// Whether the value or body is there. It has its text in the sheet either way, and that a text is empty where this says that
+    /// it is not there is a rule of members, which are looked at later: so it is no `Option`.
     pub present: bool,
     pub key: Key,
 }

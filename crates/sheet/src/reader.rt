@@ -57,6 +57,6 @@ pub(crate) fn read_member(cursor: &mut Cursor<'_>) -> Result<Member, Refusal>
 {
     let at = cursor.at;
     let rest = cursor.text()?.place;
-    let written = read_fields(&mut cursor.within(rest))?;
+    let written = read_fields(cursor.within(rest))?;
     Ok(member_of(written, at)?)
 }

@@ -64,13 +64,13 @@ fn read_body(cursor: &mut Cursor<'_>, kind: Kind) -> Result<Body, ReadFault>
 }
 
 /// The fields of the member that begin at the cursor and end with its sheet.
-pub fn read_fields(cursor: &mut Cursor<'_>) -> Result<Written, ReadFault>
-    ensures fields { seen_fields result ≡ fields_at (bytes_in cursor.old) cursor.old.at }
+pub fn read_fields(mut cursor: Cursor<'_>) -> Result<Written, ReadFault>
+    ensures { seen_fields result ≡ fields_at (bytes_in cursor.entry) cursor.entry.at }
 {
-    let head = read_head(cursor)?;
-    let decorators = read_list::<Decorator, MOST_DECORATORS>(cursor)?;
-    let parameters = read_list::<Parameter, MOST_PARAMETERS>(cursor)?;
-    let body = read_body(cursor, head.kind)?;
+    let head = read_head(&mut cursor)?;
+    let decorators = read_list::<Decorator, MOST_DECORATORS>(&mut cursor)?;
+    let parameters = read_list::<Parameter, MOST_PARAMETERS>(&mut cursor)?;
+    let body = read_body(&mut cursor, head.kind)?;
     if !cursor.is_at_end() {
         return Err(ReadFault::Spare { at: cursor.at });
     }
