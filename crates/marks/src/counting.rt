@@ -42,8 +42,6 @@ impl Marks for Counter {
 }
 
 /// What is drawn from a counter comes one after another, from the mark that it stands at: a theorem, with no code.
-pub fn counter_draws_in_order() -> u8
+pub fn counter_draws_in_order()
     ensures { CounterDrawsInOrder }
-{
-    0
-}
+{}

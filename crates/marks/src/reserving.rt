@@ -7,7 +7,6 @@ ghost use Rattle.marks.specs.Passing.{skips_draws};
 ghost use Rattle.std.proofs.Common.{rules};
 
 use crate::counting::Counter;
-use crate::listing::holds;
 use crate::source::{Exhausted, Marks};
 
 /// Gives the marks of another source, but for those in a table, where 0 stands for none.
@@ -41,7 +40,7 @@ impl<S: Marks> Marks for Reserved<S> {
     fn draw(&mut self) -> Result<u16, Exhausted> {
         let mark = loop {
             let mark = self.below.draw()?;
-            if !holds(&self.table, mark) {
+            if !self.table.contains(&mark) {
                 break mark;
             }
         };
@@ -50,6 +49,7 @@ impl<S: Marks> Marks for Reserved<S> {
 }
 
 /// Over a counter the layer draws the least mark that is free and not reserved.
+#[tactic(auto, using(crate::proofs::Least::least))]
 pub fn draw_least(source: &mut Reserved<Counter>) -> Result<u16, Exhausted>
     ensures { DrawsLeast source.old result source.new }
 {

@@ -17,10 +17,18 @@ impl Exhausted {
     pub fn numbered(self) -> Numbered
         ensures { result ≡ marks_refusal self }
     {
+        Numbered::from(self)
+    }
+}
+
+impl From<Exhausted> for Numbered {
+    ghost from_gives = { λ refusal told. told ≡ marks_refusal refusal };
+
+    fn from(refusal: Exhausted) -> Numbered {
         Numbered {
             number: 21,
             layer: Layer::Marks,
-            place: self.drawn,
+            place: refusal.drawn,
         }
     }
 }
