@@ -1,11 +1,10 @@
 -- What is drawn from a counter, and how many marks are free in it.
-use Rattle.std.proofs.Common.{◌≡◌, ℕ, zero, suc, ◌+◌, ◌-◌, ◌%◌, ◌≤◌, Bool, true, false, cond, eqb, List, [], ◌∷◌, length, Ok, Err, Result, refl, ap, arith, rules}
-use Rattle.std.proofs.lemmas.Bool.{eqb-true, eqb-false}
+use Rattle.std.proofs.Common.{◌≡◌, ℕ, zero, suc, ◌-◌, ◌≤◌, List, [], ◌∷◌, length, Result, refl, arith, rules}
 use Rattle.std.proofs.lemmas.Bool.Decides.{nat_tests}
 use Rattle.marks.specs.declared.counting.Counter.{Counter}
 use Rattle.marks.specs.declared.source.Exhausted.{Exhausted}
 use Rattle.marks.specs.Chains.{Drawn}
-use Rattle.marks.specs.Counters.{from, counter_free, CounterSteps, run_from, Counts}
+use Rattle.marks.specs.Counters.{from, counter_free, CounterSteps, run_from}
 use Rattle.marks.specs.Sets.{Draws}
 use Rattle.marks.specs.Sizes.{count, size}
 

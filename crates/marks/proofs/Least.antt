@@ -1,4 +1,4 @@
--- A counter under reserved marks draws the least that is free. Assumes nothing.
+-- A counter under reserved marks draws the least that is free.
 use Rattle.std.proofs.Common.{◌≡◌, ℕ, zero, suc, ◌<◌, Bool, true, false, not, ◌&&◌, Ok, Err, Result, ap, arith}
 use Rattle.std.proofs.lemmas.Bool.Decides.{nat_tests}
 use Rattle.marks.specs.declared.counting.Counter.{Counter}

@@ -1,5 +1,5 @@
 -- Sets of marks, and what one draw does to such a set.
-use Rattle.std.specs.Prelude.{◌≡◌, ℕ, Bool, true, false, not, ◌&&◌, ◌||◌, List, [], ◌∷◌, Ok, Err, Result, ◌==◌, nat_le}
+use Rattle.std.specs.Prelude.{◌≡◌, ℕ, Bool, true, false, not, ◌&&◌, List, Ok, Err, Result, ◌==◌, nat_le}
 use Rattle.std.specs.List.{list_any}
 use Rattle.marks.specs.declared.source.Exhausted.{Exhausted}
 

@@ -9,7 +9,9 @@ use crate::source::{Exhausted, Marks};
 /// Gives the numbers of a list in their order, up to the first that is 0 or came before.
 #[derive(Drop)]
 pub struct MarkList {
+    /// All of them: those that are given show which number comes again, and an iterator would not keep them.
     numbers: Vec<u16>,
+    /// How many are given.
     given: usize,
 }
 

@@ -1,7 +1,7 @@
 //! The reserved layer.
 ghost use Rattle.std.specs.Prelude.{◌≡◌};
 ghost use Rattle.marks.specs.Least.{DrawsLeast};
-ghost use Rattle.marks.specs.Sets.{among, except};
+ghost use Rattle.marks.specs.Sets.{except};
 ghost use Rattle.marks.specs.Skips.{Skips};
 ghost use Rattle.marks.specs.Passing.{skips_draws};
 ghost use Rattle.std.proofs.Common.{rules};
@@ -13,6 +13,7 @@ use crate::source::{Exhausted, Marks};
 #[derive(Drop)]
 pub struct Reserved<S> {
     below: S,
+    /// Of a fixed size, so that a layer needs no heap.
     table: [u16; 64],
 }
 

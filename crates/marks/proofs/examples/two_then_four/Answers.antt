@@ -1,4 +1,4 @@
-use Rattle.std.proofs.Common.{ℕ, List, ◌∷◌, replicate, refl}
+use Rattle.std.proofs.Common.{◌∷◌, replicate, refl}
 use Rattle.marks.specs.Counters.{from}
 use Rattle.marks.specs.Sets.{Set, except, without}
 use Rattle.marks.proofs.Least.{least, only_least}
