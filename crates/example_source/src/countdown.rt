@@ -31,10 +31,7 @@ impl Marks for Countdown {
 
     fn draw(&mut self) -> Result<u16, Exhausted> {
         let mark = self.next;
-        if mark == 0 {
-            return Err(Exhausted { drawn: 0 });
-        }
-        self.next = mark - 1;
+        self.next = mark.checked_sub(1).ok_or(Exhausted { drawn: 0 })?;
         Ok(mark)
     }
 }

@@ -14,21 +14,16 @@ use std::io;
 fn pair<S: Marks>(source: &mut S) -> Result<(u16, u16), Exhausted>
     ensures { IfOk result (λ p. p.0 ≢ p.1) }
 {
-    let first = source.draw()?;
-    let second = source.draw()?;
-    Ok((first, second))
+    Ok((source.draw()?, source.draw()?))
 }
 
 /// Prints the first three draws of a source, or up to its refusal.
-fn print_draws<S: Marks + Drop>(rt: &HostRuntime, name: &str, mut source: S) -> io::Result<()> {
+fn print_draws<S: Marks + Drop>(rt: &impl Print, name: &str, mut source: S) -> io::Result<()> {
     print!(rt; "{name}:")?;
     for _ in 0..3 {
         match source.draw() {
             Ok(mark) => print!(rt; " {mark}")?,
-            Err(refusal) => {
-                let told = refusal.numbered();
-                return println!(rt; " {told}");
-            }
+            Err(refusal) => return println!(rt; " {refusal}"),
         }
     }
     println!(rt; " ..")
@@ -36,24 +31,15 @@ fn print_draws<S: Marks + Drop>(rt: &HostRuntime, name: &str, mut source: S) -> 
 
 /// The numbers from 1 to 64.
 fn full_table() -> [u16; 64] {
-    let mut table = [0; 64];
-    let mut number = 0u16;
-    for place in table.iter_mut() {
-        number = number.wrapping_add(1);
-        *place = number;
-    }
-    table
+    std::array::from_fn(|place| place as u16 + 1)
 }
 
 /// Prints what a call for three marks of a countdown from `last` answers, and the table afterwards.
-fn print_several(rt: &HostRuntime, last: u16) -> io::Result<()> {
+fn print_several(rt: &impl Print, last: u16) -> io::Result<()> {
     let mut out = [7; 3];
     match draw_into(&mut Countdown::new(last), &mut out) {
         Ok(()) => println!(rt; "three of {last}: {out:?}"),
-        Err(refusal) => {
-            let told = refusal.numbered();
-            println!(rt; "three of {last}: {told}, {out:?}")
-        }
+        Err(refusal) => println!(rt; "three of {last}: {refusal}, {out:?}"),
     }
 }
 
@@ -76,9 +62,6 @@ fn main(rt: HostRuntime) -> io::Result<()> {
     print_several(&rt, 2)?;
     match pair(&mut Countdown::new(9)) {
         Ok((first, second)) => println!(rt; "pair of 9: {first} {second}"),
-        Err(refusal) => {
-            let told = refusal.numbered();
-            println!(rt; "pair of 9: {told}")
-        }
+        Err(refusal) => println!(rt; "pair of 9: {refusal}"),
     }
 }

@@ -1,13 +1,14 @@
--- One draw more.
-use Rattle.std.proofs.Common.{◌≡◌, ℕ, ◌+◌, ◌<◌, ◌≤◌, min, false, cond, List, [], ◌∷◌, ◌++◌, length, take, drop, set, Ok, Err, Result, sym, refl, ap, ◌∙◌, subst, arith}
-use Rattle.std.proofs.lemmas.List.{length_push, length-take, take_more_set, drop-set-lt, drop-drop}
-use Rattle.std.proofs.lemmas.Bool.{le-leb, lt-leb}
+-- Marks that are drawn one after another into the places of a table.
+use Rattle.std.proofs.Common.{◌≡◌, ℕ, ◌+◌, ◌<◌, false, List, [], ◌∷◌, ◌++◌, length, take, drop, set, Ok, Err, Result, is_ok, refl, arith}
+use Rattle.std.proofs.lemmas.List.{length_push, take_more_set}
 use Rattle.std.proofs.lemmas.Bool.Decides.{nat_tests}
+use Rattle.std.proofs.lemmas.Grind.{common_steps}
 use Rattle.marks.specs.declared.source.Exhausted.{Exhausted}
+use Rattle.marks.specs.Among.{among_push}
+use Rattle.marks.specs.Chains.{Drawn, Several}
 use Rattle.marks.specs.Sets.{Set, mark, among, except, Within, Draws}
 use Rattle.marks.specs.Sizes.{size}
-use Rattle.marks.specs.Takes.{Once, Takes, report}
-use Rattle.marks.specs.Among.{among_push}
+use Rattle.marks.specs.Takes.{Once, Takes}
 use Rattle.marks.proofs.Counts.{size_draw, size_none}
 
 once_push : (xs : List ℕ) (x : ℕ) → Once xs → among xs x ≡ false → Once (xs ++ x ∷ [])
@@ -16,7 +17,7 @@ once_push (y ∷ ys) x (n, h) e =
     let pushed = among_push ys x y in
     (grind (arith, nat_tests), once_push ys x h (grind (arith, nat_tests)))
 
-pub takes_push : (s : Set) (ms : List ℕ) (u t : Set) (m : ℕ) → Within u mark → Takes s ms u → Draws u (Ok m) t → Takes s (ms ++ m ∷ []) t
+takes_push : (s : Set) (ms : List ℕ) (u t : Set) (m : ℕ) → Within u mark → Takes s ms u → Draws u (Ok m) t → Takes s (ms ++ m ∷ []) t
 takes_push s ms u t m within taken (is_free, left) =
     let at-m = taken.rest m in
     record {
@@ -27,67 +28,43 @@ takes_push s ms u t m within taken (is_free, left) =
     }
 
 -- A refusal comes where all are taken.
-pub takes_all : (s : Set) (ms : List ℕ) (u t : Set) (e : Exhausted) → Takes s ms u → Draws u (Err e) t → Takes s ms t × (size s ≡ length ms)
+takes_all : (s : Set) (ms : List ℕ) (u t : Set) (e : Exhausted) → Takes s ms u → Draws u (Err e) t → Takes s ms t × (size s ≡ length ms)
 takes_all s ms u t e taken (none, none_after, _) =
     let all : size s ≡ length ms = omega (arith, taken.fewer, size_none u none) in
     let rest : (k : ℕ) → t k ≡ except s ms k = λ k. let before = taken.rest k in let was = none k in let now = none_after k in cc in
     (record { once = taken.once; free = taken.free; rest = rest; fewer = omega (arith, size_none t none_after) }, all)
 
--- The marks go into a table: one more of its places is written.
-pub takes_set : (s u t : Set) (xs : List ℕ) (i m : ℕ) → i < length xs → Within u mark → Takes s (take i xs) u → Draws u (Ok m) t →
-    Takes s (take (i + 1) (set xs i m)) t
-takes_set s u t xs i m inside within taken drawn =
-    subst (λ ms. Takes s ms t) (sym (take_more_set xs i m inside)) (takes_push s (take i xs) u t m within taken drawn)
+module _ {S : Type 0} (steps : S → Result ℕ Exhausted → S → Type 0) where
+  drawn_push : (ms : List ℕ) (m : ℕ) (s u t : S) → Drawn steps ms s u → steps u (Ok m) t → Drawn steps (ms ++ m ∷ []) s t
+  drawn_push [] m s u t same step = (t, rw same step, refl)
+  drawn_push (k ∷ ms) m s u t (v, first, others) step = (v, first, drawn_push ms m v u t others step)
 
-pub rest_set : (xs ys : List ℕ) (i m : ℕ) → drop i xs ≡ drop i ys → drop (i + 1) (set xs i m) ≡ drop (i + 1) ys
-rest_set xs ys i m same =
-    drop-set-lt (i + 1) xs i m (omega arith) ∙ (sym (drop-drop 1 i xs) ∙ (ap (drop 1) same ∙ drop-drop 1 i ys))
+-- The first i places of xs hold what was drawn from s, in the order of the draws, and u is left. The other places are as in ys.
+pub record DrawnInto {S : Type 0} (free : S → Set) (steps : S → Result ℕ Exhausted → S → Type 0) (s : S) (ys : List ℕ) (i : ℕ) (xs : List ℕ) (u : S) : Type 0 where
+  pub takes : Takes (free s) (take i xs) (free u)
+  pub rest : drop i xs ≡ drop i ys
+  pub drawn : Drawn steps (take i xs) s u
 
--- so many places are written, as many as are asked for and free: all of them
-pub written_filled : (n i : ℕ) (s : Set) (xs : List ℕ) (t : Set) → length xs ≡ n → n ≤ i → i ≤ n → Takes s (take i xs) t → i ≡ min n (size s)
-written_filled n i s xs t long low high taken =
-    let size_is = taken.fewer in
-    let short = length-take i xs in
-    omega arith
+module _ {S : Type 0} {free : S → Set} {steps : S → Result ℕ Exhausted → S → Type 0} (marks : (s : S) → Within (free s) mark)
+    (draws : (s : S) (r : Result ℕ Exhausted) (t : S) → steps s r t → Draws (free s) r (free t)) where
+  -- one draw more, into the next place
+  pub one_more : {s u t : S} {ys xs : List ℕ} {i m : ℕ} {r : Result ℕ Exhausted} → i < length xs →
+      DrawnInto free steps s ys i xs u → r ≡ Ok m → steps u r t → DrawnInto free steps s ys (i + 1) (set xs i m) t
+  one_more {s = s} {u = u} {t = t} {xs = xs} {i = i} {m = m} inside before is step =
+      let drawn = rw is at step in
+      let more = take_more_set xs i m inside in
+      record {
+        takes = rw more (takes_push (free s) (take i xs) (free u) (free t) m (marks u) before.takes (draws u (Ok m) t drawn));
+        rest = grind (arith, common_steps);
+        drawn = rw more (drawn_push steps (take i xs) m s u t before.drawn drawn);
+      }
 
--- or as many as there were
-pub written_stopped : (n i : ℕ) (s u t : Set) (e : Exhausted) (xs : List ℕ) → length xs ≡ n → i < n → Takes s (take i xs) u → Draws u (Err e) t →
-    i ≡ min n (size s)
-written_stopped n i s u t e xs long less taken drawn =
-    let (all, count) = takes_all s (take i xs) u t e taken drawn in
-    let short = length-take i xs in
-    omega arith
-
--- What a call for n leaves, where k are free: so many places are written.
-pub record Filled (n : ℕ) (s : Set) (r : Result (Unit {0}) Exhausted) (xs ys : List ℕ) (t : Set) : Type 0 where
-  pub answers : r ≡ report n (size s)
-  pub takes : Takes s (take (min n (size s)) xs) t
-  pub rest : drop (min n (size s)) xs ≡ drop (min n (size s)) ys
-
-filled_at : (n i : ℕ) (s : Set) (r : Result (Unit {0}) Exhausted) (xs ys : List ℕ) (t : Set) → i ≡ min n (size s) → r ≡ report n (size s) →
-    Takes s (take i xs) t → drop i xs ≡ drop i ys → Filled n s r xs ys t
-filled_at n i s r xs ys t is answers taken same = record {
-  answers = answers;
-  takes = subst (λ j. Takes s (take j xs) t) is taken;
-  rest = subst (λ j. drop j xs ≡ drop j ys) is same;
-}
-
--- all of them
-pub filled : (n i : ℕ) (s : Set) (xs ys : List ℕ) (t : Set) → length xs ≡ n → n ≤ i → i ≤ n → Takes s (take i xs) t → drop i xs ≡ drop i ys →
-    Filled n s (Ok tt) xs ys t
-filled n i s xs ys t long low high taken same =
-    let size_is = taken.fewer in
-    let short = length-take i xs in
-    let enough : n ≤ size s = omega arith in
-    filled_at n i s (Ok tt) xs ys t (omega arith)
-    (sym (ap (λ b. cond b (Ok tt) (Err (record { drawn = size s }))) (le-leb n (size s) enough))) taken same
-
--- or as many as there were
-pub stopped : (n i : ℕ) (s u t : Set) (e : Exhausted) (xs ys : List ℕ) → length xs ≡ n → i < n → Takes s (take i xs) u → Draws u (Err e) t →
-    drop i xs ≡ drop i ys → Filled n s (Err (record { drawn = i })) xs ys t
-stopped n i s u t e xs ys long less taken drawn same =
-    let (all, count) = takes_all s (take i xs) u t e taken drawn in
-    let short = length-take i xs in
-    let is : i ≡ size s = omega arith in
-    filled_at n i s (Err (record { drawn = i })) xs ys t (omega arith)
-    (ap (λ k. Err (record { drawn = k })) is ∙ sym (ap (λ b. cond b (Ok tt) (Err (record { drawn = size s }))) (lt-leb n (size s) (omega arith)))) all same
+  -- A draw is refused where all are taken, and takes nothing.
+  pub no_more : {s u t : S} {ys xs : List ℕ} {i : ℕ} {r : Result ℕ Exhausted} → i < length xs →
+      DrawnInto free steps s ys i xs u → is_ok r ≡ false → steps u r t →
+      (size (free s) ≡ i) × Takes (free s) (take i xs) (free t) × Several steps (Err (record { drawn = i })) (take i xs) s t
+  no_more {r = Ok m} inside before is step = absurd cc
+  no_more {s = s} {u = u} {t = t} {xs = xs} {i = i} {r = Err e} inside before is step =
+      let refused = draws u (Err e) t step in
+      let (taken, all) = takes_all (free s) (take i xs) (free u) (free t) e before.takes refused in
+      (grind (arith, common_steps), taken, (u, before.drawn, rw refused.2 at step))

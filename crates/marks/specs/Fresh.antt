@@ -1,7 +1,7 @@
 -- What a list has still to give.
-use Rattle.std.specs.Prelude.{◌≡◌, ℕ, ◌+◌, ◌<◌, ◌≤◌, true, false, cond, not, ◌&&◌, List, [], ◌∷◌, ◌++◌, length, take, drop, Ok, Err, Result, slice_index_or, refl}
-use Rattle.std.proofs.Common.{ap, arith}
-use Rattle.std.proofs.lemmas.List.{take_more, at_drop_more, at_drop_all}
+use Rattle.std.specs.Prelude.{◌≡◌, ℕ, ◌+◌, ◌<◌, true, false, cond, not, ◌&&◌, List, [], ◌∷◌, ◌++◌, length, take, drop, Ok, Err, Result, slice_index_or, refl}
+use Rattle.std.proofs.Common.{arith, ◌∙◌}
+use Rattle.std.proofs.lemmas.List.{take_more, at_drop_more}
 use Rattle.std.proofs.lemmas.Bool.Decides.{nat_tests}
 use Rattle.marks.specs.declared.source.Exhausted.{Exhausted}
 use Rattle.marks.specs.Sets.{mark, among, Within, Draws}
@@ -27,12 +27,10 @@ fresh_once seen (x ∷ xs) m ys h =
     let rest = fresh_unseen (seen ++ x ∷ []) xs x in
     grind (arith, nat_tests)
 
-pub left_none : (xs : List ℕ) (i : ℕ) → length xs ≤ i → left xs i ≡ []
-left_none xs i h = at_drop_all (fresh (take i xs)) xs i h
-
-pub left_next : (xs : List ℕ) (i : ℕ) → i < length xs →
-    let x = slice_index_or xs i 0 in left xs i ≡ cond (mark x && not (among (take i xs) x)) (x ∷ left xs (i + 1)) []
-left_next xs i h = rw (take_more xs i 0 h) (at_drop_more (fresh (take i xs)) xs i 0 h)
+-- x is what a list has after its first i
+pub left_next : (xs : List ℕ) (i x : ℕ) → i < length xs → x ≡ slice_index_or xs i x →
+    left xs i ≡ cond (mark x && not (among (take i xs) x)) (x ∷ left xs (i + 1)) []
+left_next xs i x h is = rw (take_more xs i x h, ← is) (at_drop_more (fresh (take i xs)) xs i x h ∙ rw (← is))
 
 pub left_marks : (xs : List ℕ) (i : ℕ) → Within (among (left xs i)) mark
 left_marks xs i = fresh_marks (take i xs) (drop i xs)
@@ -43,10 +41,7 @@ gives_draws xs i ys r h = by (left xs i) (fresh_once (take i xs) (drop i xs)) r 
   where
     by : (ws : List ℕ) → ((m : ℕ) (zs : List ℕ) → ws ≡ m ∷ zs → among zs m ≡ false) → (r : Result ℕ Exhausted) → Gives ws r ys →
         Draws (among ws) r (among ys)
-    by [] once (Ok m) (is, left) = let z : ◌≡◌ {A = ℕ} 0 1 = cc in absurd (omega arith)
-    by [] once (Err e) (is, left) = (λ k. refl, λ k. ap (λ l. among l k) left, let same : e ≡ record { drawn = 0 } = cc in ap (λ (f : Exhausted). f.drawn) same)
-    by (x ∷ ws) once (Ok m) (is, left) =
-        let same : m ≡ x = cc in
-        let new = once x ws refl in
-        (grind (arith, nat_tests), λ k. grind (arith, nat_tests))
-    by (x ∷ ws) once (Err e) (is, left) = let z : ◌≡◌ {A = ℕ} 0 1 = cc in absurd (omega arith)
+    by [] once (Ok m) (is, left) = absurd cc
+    by [] once (Err e) (is, left) = (λ k. refl, λ k. rw left, grind arith)
+    by (x ∷ ws) once (Ok m) (is, left) = let new = once x ws refl in (grind (arith, nat_tests), λ k. grind (arith, nat_tests))
+    by (x ∷ ws) once (Err e) (is, left) = absurd cc

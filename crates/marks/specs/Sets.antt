@@ -1,5 +1,6 @@
 -- Sets of marks, and what one draw does to such a set.
-use Rattle.std.specs.Prelude.{◌≡◌, ℕ, Bool, true, false, not, ◌&&◌, ◌||◌, List, [], ◌∷◌, Ok, Err, Result, ◌==◌, nat_le}
+use Rattle.std.specs.Prelude.{◌≡◌, ℕ, Bool, true, false, not, ◌&&◌, List, Ok, Err, Result, ◌==◌, nat_le}
+use Rattle.std.specs.List.{list_any}
 use Rattle.marks.specs.declared.source.Exhausted.{Exhausted}
 
 abbrev pub Set : Type 0
@@ -21,8 +22,7 @@ without s m k = s k && not (m == k)
 
 -- the set of a list's numbers
 abbrev pub among : List ℕ → Set
-among [] k = false
-among (x ∷ xs) k = x == k || among xs k
+among xs k = list_any (λ x. x == k) xs
 
 -- s without the numbers of a list
 abbrev pub except : Set → List ℕ → Set

@@ -8,7 +8,7 @@ use crate::source::{Exhausted, Marks};
 /// Gives the marks from the one that it stands at up to 65,535, the least first.
 #[derive(Drop)]
 pub struct Counter {
-    /// 0 once all are given.
+    /// 0 once all are given: 0 is none in `new` too, and in an `Option` both `None` and `Some(0)` would be none.
     next: u16,
 }
 
@@ -42,8 +42,6 @@ impl Marks for Counter {
 }
 
 /// What is drawn from a counter comes one after another, from the mark that it stands at: a theorem, with no code.
-pub fn counter_draws_in_order() -> u8
+pub fn counter_draws_in_order()
     ensures { CounterDrawsInOrder }
-{
-    0
-}
+{}

@@ -15,9 +15,7 @@ pub fn two_then_four() -> (Result<u16, Exhausted>, Result<u16, Exhausted>)
     table[0] = 1;
     table[1] = 3;
     let mut source = Reserved::new(Counter::new(1), table);
-    let first = source.draw();
-    let second = source.draw();
-    (first, second)
+    (source.draw(), source.draw())
 }
 
 /// A list of 7, 0 and 9 ends at the 0.
@@ -27,7 +25,5 @@ pub fn seven_then_none(
     ensures { IfOk result (λ p. (p.0 ≡ Ok 7) × (p.1 ≡ Err (record { drawn = 0 }))) }
 {
     let mut source = MarkList::new(vec![in heap; 7, 0, 9]?);
-    let first = source.draw();
-    let second = source.draw();
-    Ok((first, second))
+    Ok((source.draw(), source.draw()))
 }

@@ -9,7 +9,9 @@ use crate::source::{Exhausted, Marks};
 /// Gives the numbers of a list in their order, up to the first that is 0 or came before.
 #[derive(Drop)]
 pub struct MarkList {
+    /// All of them: those that are given show which number comes again, and an iterator would not keep them.
     numbers: Vec<u16>,
+    /// How many are given.
     given: usize,
 }
 
@@ -33,21 +35,12 @@ impl Marks for MarkList {
 
     fn draw(&mut self) -> Result<u16, Exhausted> {
         let numbers = self.numbers.as_slice();
-        let given = self.given;
-        if given >= numbers.len() {
-            return Err(Exhausted { drawn: 0 });
+        match numbers.get(self.given) {
+            Some(mark) if *mark != 0 && !numbers[..self.given].contains(mark) => {
+                self.given += 1;
+                Ok(*mark)
+            }
+            _ => Err(Exhausted { drawn: 0 }),
         }
-        let mark = numbers[given];
-        if mark == 0 || holds(&numbers[0..given], mark) {
-            return Err(Exhausted { drawn: 0 });
-        }
-        self.given = given + 1;
-        Ok(mark)
     }
-}
-
-pub(crate) fn holds(numbers: &[u16], number: u16) -> bool
-    ensures { result ≡ among numbers.now number }
-{
-    numbers.contains(&number)
 }

@@ -1,19 +1,19 @@
 //! The reserved layer.
 ghost use Rattle.std.specs.Prelude.{◌≡◌};
 ghost use Rattle.marks.specs.Least.{DrawsLeast};
-ghost use Rattle.marks.specs.Sets.{among, except};
+ghost use Rattle.marks.specs.Sets.{except};
 ghost use Rattle.marks.specs.Skips.{Skips};
 ghost use Rattle.marks.specs.Passing.{skips_draws};
 ghost use Rattle.std.proofs.Common.{rules};
 
 use crate::counting::Counter;
-use crate::listing::holds;
 use crate::source::{Exhausted, Marks};
 
 /// Gives the marks of another source, but for those in a table, where 0 stands for none.
 #[derive(Drop)]
 pub struct Reserved<S> {
     below: S,
+    /// Of a fixed size, so that a layer needs no heap.
     table: [u16; 64],
 }
 
@@ -41,7 +41,7 @@ impl<S: Marks> Marks for Reserved<S> {
     fn draw(&mut self) -> Result<u16, Exhausted> {
         let mark = loop {
             let mark = self.below.draw()?;
-            if !holds(&self.table, mark) {
+            if !self.table.contains(&mark) {
                 break mark;
             }
         };
@@ -50,6 +50,7 @@ impl<S: Marks> Marks for Reserved<S> {
 }
 
 /// Over a counter the layer draws the least mark that is free and not reserved.
+#[tactic(auto, using(crate::proofs::Least::least))]
 pub fn draw_least(source: &mut Reserved<Counter>) -> Result<u16, Exhausted>
     ensures { DrawsLeast source.old result source.new }
 {

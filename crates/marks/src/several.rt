@@ -13,11 +13,8 @@ pub fn draw_into<S: Marks>(source: &mut S, out: &mut [u16]) -> Result<(), Exhaus
     ensures rest { drop (min (length out.old) (size (S.free source.old))) out.new ≡ drop (min (length out.old) (size (S.free source.old))) out.old }
     ensures steps { Several S.steps result (take (min (length out.old) (size (S.free source.old))) out.new) source.old source.new }
 {
-    for drawn in 0..out.len() {
-        match source.draw() {
-            Ok(mark) => out[drawn] = mark,
-            Err(_) => return Err(Exhausted { drawn }),
-        }
+    for (drawn, slot) in out.iter_mut().enumerate() {
+        *slot = source.draw().map_err(|_| Exhausted { drawn })?;
     }
     Ok(())
 }

@@ -1,10 +1,12 @@
 //! What a source of marks is.
-ghost use Rattle.std.specs.Prelude.{◌≡◌, ℕ, Result};
+ghost use Rattle.std.specs.Prelude.{◌≡◌, ℕ, Result, Some};
 ghost use Rattle.marks.specs.declared.source.Exhausted.{Exhausted};
 ghost use Rattle.marks.specs.Refusals.{marks_refusal};
+ghost use Rattle.refusals.specs.Told.{told};
 ghost use Rattle.marks.specs.Sets.{Set, mark, Within, Draws};
 
 use refusals::{Layer, Numbered};
+use std::fmt;
 
 /// No mark is free any more. A call that draws several says how many it drew before; a single draw says 0.
 #[derive(Clone, Copy)]
@@ -17,11 +19,27 @@ impl Exhausted {
     pub fn numbered(self) -> Numbered
         ensures { result ≡ marks_refusal self }
     {
+        Numbered::from(self)
+    }
+}
+
+impl From<Exhausted> for Numbered {
+    ghost from_gives = { λ refusal told. told ≡ marks_refusal refusal };
+
+    fn from(refusal: Exhausted) -> Numbered {
         Numbered {
             number: 21,
             layer: Layer::Marks,
-            place: self.drawn,
+            place: refusal.drawn,
         }
+    }
+}
+
+impl fmt::Display for Exhausted {
+    ghost output = { λ refusal. Some (told (marks_refusal refusal)) };
+
+    fn fmt<W: fmt::Write>(&self, f: &mut fmt::Formatter<W>) -> fmt::Result {
+        self.numbered().fmt(f)
     }
 }
 
