@@ -1,8 +1,10 @@
 //! The codes of a member: its kind, its flags, and the kinds of its key, decorators and parameters.
-ghost use Rattle.std.specs.Prelude.{◌≡◌};
+ghost use Rattle.std.specs.Prelude.{◌≡◌, Some};
 ghost use Rattle.pieces.specs.Codes.{kind_of, key_kind_of, shape_of, form_of, flags_of};
+ghost use Rattle.pieces.specs.Words.{kind_name, key_kind_name, shape_name, form_name};
 
 use formats::ReadFault;
+use std::fmt;
 
 /// What a member is.
 #[derive(Clone, Copy)]
@@ -132,5 +134,60 @@ impl Flags {
             is_declared: code / 32 % 2 == 1,
         };
         Ok((flags, code / 4 % 2 == 1))
+    }
+}
+
+// The words by which the codes are told.
+
+impl fmt::Display for Kind {
+    ghost output = { λ k. Some (kind_name k) };
+
+    fn fmt<W: fmt::Write>(&self, f: &mut fmt::Formatter<W>) -> fmt::Result {
+        f.write_str(match self {
+            Kind::Field => "field",
+            Kind::Accessor => "accessor",
+            Kind::Method => "method",
+            Kind::Getter => "getter",
+            Kind::Setter => "setter",
+            Kind::Constructor => "constructor",
+            Kind::Other => "other",
+        })
+    }
+}
+
+impl fmt::Display for KeyKind {
+    ghost output = { λ k. Some (key_kind_name k) };
+
+    fn fmt<W: fmt::Write>(&self, f: &mut fmt::Formatter<W>) -> fmt::Result {
+        f.write_str(match self {
+            KeyKind::Identifier => "identifier",
+            KeyKind::Literal => "string or number literal",
+            KeyKind::ComputedIdentifier => "computed identifier",
+            KeyKind::Computed => "computed",
+        })
+    }
+}
+
+impl fmt::Display for Shape {
+    ghost output = { λ s. Some (shape_name s) };
+
+    fn fmt<W: fmt::Write>(&self, f: &mut fmt::Formatter<W>) -> fmt::Result {
+        f.write_str(match self {
+            Shape::Identifier => "identifier",
+            Shape::Arrow => "arrow",
+            Shape::Function => "function",
+            Shape::Other => "other",
+        })
+    }
+}
+
+impl fmt::Display for Form {
+    ghost output = { λ x. Some (form_name x) };
+
+    fn fmt<W: fmt::Write>(&self, f: &mut fmt::Formatter<W>) -> fmt::Result {
+        f.write_str(match self {
+            Form::Other => "other",
+            Form::Plain => "plain",
+        })
     }
 }
