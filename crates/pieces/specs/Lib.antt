@@ -7,3 +7,4 @@ pub mod Kept
 pub mod Layout
 pub mod Parts
 pub mod Shown
+pub mod Words

@@ -1,13 +1,13 @@
 //! The codes of a member: its kind, its flags, and the kinds of its key, decorators and parameters.
-ghost use Rattle.std.specs.Prelude.{◌≡◌, ◌<◌, ℕ, Result};
-ghost use Rattle.formats.specs.declared.ReadFault.{ReadFault};
-ghost use Rattle.formats.specs.declared.ReadFault.TheVariants.{Unknown};
-ghost use Rattle.formats.specs.Cursors.{bytes_in, with_next};
-ghost use Rattle.formats.specs.Readers.{faulted};
-ghost use Rattle.pieces.specs.declared.codes.UnknownCode.{UnknownCode};
-ghost use Rattle.pieces.specs.Codes.{Decodes, kind_code, all_kinds, kind_of, key_code, all_key_kinds, key_kind_of, shape_code, all_shapes, shape_of, form_code, all_forms, form_of, flag, flag_byte_of, code_and_next, HasFlags};
+ghost use Rattle.std.specs.Prelude.{◌≡◌, ◌<◌, Some};
+ghost use Rattle.pieces.specs.Codes.{Decodes, kind_code, all_kinds, key_code, all_key_kinds, shape_code, all_shapes, form_code, all_forms, flag, HasFlags};
+ghost use Rattle.pieces.specs.Words.{kind_name, key_kind_name, shape_name, form_name};
 
-use formats::{Cursor, ReadFault};
+use std::fmt;
+
+mod reading;
+
+pub(crate) use reading::read_code;
 
 /// What a member is.
 #[derive(Clone, Copy)]
@@ -184,51 +184,57 @@ impl TryFrom<u8> for FlagByte {
     }
 }
 
-/// What a byte of a member can stand for.
-pub(crate) trait Code: TryFrom<u8, Error = UnknownCode> {
-    /// What a byte at some place of a sheet is read as.
-    ghost read_as: { ℕ → ℕ → Result Self ReadFault };
+// The words by which the codes are told.
 
-    /// It is read as what it is taken for.
-    ghost is_read: { (a : ℕ) (r : Result Self UnknownCode) → Self.try_from_gives a r → (at : ℕ) → faulted (λ _. Unknown at) r ≡ read_as a at };
+impl fmt::Display for Kind {
+    ghost output = { λ k. Some (kind_name k) };
+
+    fn fmt<W: fmt::Write>(&self, f: &mut fmt::Formatter<W>) -> fmt::Result {
+        f.write_str(match self {
+            Kind::Field => "field",
+            Kind::Accessor => "accessor",
+            Kind::Method => "method",
+            Kind::Getter => "getter",
+            Kind::Setter => "setter",
+            Kind::Constructor => "constructor",
+            Kind::Other => "other",
+        })
+    }
 }
 
-impl Code for Kind {
-    ghost read_as = { kind_of };
+impl fmt::Display for KeyKind {
+    ghost output = { λ k. Some (key_kind_name k) };
 
-    ghost is_read = { λ a r h at. h at };
+    fn fmt<W: fmt::Write>(&self, f: &mut fmt::Formatter<W>) -> fmt::Result {
+        f.write_str(match self {
+            KeyKind::Identifier => "identifier",
+            KeyKind::Literal => "string or number literal",
+            KeyKind::ComputedIdentifier => "computed identifier",
+            KeyKind::Computed => "computed",
+        })
+    }
 }
 
-impl Code for KeyKind {
-    ghost read_as = { key_kind_of };
+impl fmt::Display for Shape {
+    ghost output = { λ s. Some (shape_name s) };
 
-    ghost is_read = { λ a r h at. h at };
+    fn fmt<W: fmt::Write>(&self, f: &mut fmt::Formatter<W>) -> fmt::Result {
+        f.write_str(match self {
+            Shape::Identifier => "identifier",
+            Shape::Arrow => "arrow",
+            Shape::Function => "function",
+            Shape::Other => "other",
+        })
+    }
 }
 
-impl Code for Shape {
-    ghost read_as = { shape_of };
+impl fmt::Display for Form {
+    ghost output = { λ x. Some (form_name x) };
 
-    ghost is_read = { λ a r h at. h at };
-}
-
-impl Code for Form {
-    ghost read_as = { form_of };
-
-    ghost is_read = { λ a r h at. h at };
-}
-
-impl Code for FlagByte {
-    ghost read_as = { flag_byte_of };
-
-    ghost is_read = { λ a r h at. h at };
-}
-
-/// The next byte, as what it stands for.
-pub(crate) fn read_code<T: Code>(cursor: &mut Cursor<'_>) -> Result<T, ReadFault>
-    ensures code { with_next result cursor.new.at ≡ code_and_next T.Code.read_as (bytes_in cursor.old) cursor.old.at }
-    ensures sheet { cursor.new.sheet ≡ cursor.old.sheet }
-{
-    let at = cursor.at;
-    let byte = cursor.byte()?;
-    T::try_from(byte).map_err(|_| ReadFault::Unknown { at })
+    fn fmt<W: fmt::Write>(&self, f: &mut fmt::Formatter<W>) -> fmt::Result {
+        f.write_str(match self {
+            Form::Other => "other",
+            Form::Plain => "plain",
+        })
+    }
 }

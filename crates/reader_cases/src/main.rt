@@ -2,7 +2,6 @@
 
 #![tactic(auto)]
 
-mod hex;
 mod table;
 
 use std::io;
@@ -10,34 +9,27 @@ use std::io::{BufRead, BufReader, ErrorKind};
 use table::Case;
 
 /// Prints the answer to a line. Blank lines and lines that begin with `#` are no cases.
-fn replay(rt: &HostRuntime, line: &str) -> anyhow::Result<()> {
+fn replay(rt: &(impl Print + AllocGlobal), line: &str) -> anyhow::Result<()> {
     if line.is_empty() || line.starts_with('#') {
         return Ok(());
     }
     let case = Case::parse(rt.alloc(), line)?;
     let name = case.name;
     match sheet::read(rt.alloc(), case.bytes.as_slice()) {
-        Ok(class) => {
-            let count = class.members.len();
-            println!(rt; "{name}: {count} members")?;
-        }
+        Ok(class) => println!(rt; "{name}: {} members", class.members.len())?,
         Err(refusal) => {
-            let Some(numbered) = refusal.numbered() else {
-                return Err(io::Error::from(ErrorKind::OutOfMemory).into());
-            };
+            // What has no number is want of memory.
+            let wanting = io::Error::from(ErrorKind::OutOfMemory);
+            let numbered = refusal.numbered().ok_or(wanting)?;
             println!(rt; "{name}: {numbered}")?;
         }
     }
     Ok(())
 }
 
-fn run(rt: &HostRuntime) -> anyhow::Result<()> {
+fn main(rt: HostRuntime) -> anyhow::Result<()> {
     for line in BufReader::new(rt.alloc(), rt.stdin())?.lines(rt.alloc()) {
-        replay(rt, line?.as_str())?;
+        replay(&rt, line?.as_str())?;
     }
     Ok(())
-}
-
-fn main(rt: HostRuntime) -> anyhow::Result<()> {
-    run(&rt)
 }

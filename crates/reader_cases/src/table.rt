@@ -1,6 +1,6 @@
 //! The lines of a table of sheets.
-use crate::hex::hex_byte;
-use anyhow::anyhow;
+use anyhow::{Context, bail, ensure};
+use hex::FromHex;
 use std::alloc::Global;
 
 /// A named sheet.
@@ -13,9 +13,7 @@ pub struct Case<'l> {
 impl<'l> Case<'l> {
     /// The case of a line: a name, a colon, and tokens with blanks between them.
     pub(crate) fn parse(heap: Global, line: &'l str) -> anyhow::Result<Case<'l>> {
-        let Some((name, tokens)) = line.split_once(':') else {
-            return Err(anyhow!("no name before a colon"));
-        };
+        let (name, tokens) = line.split_once(':').context("no name before a colon")?;
         let mut bytes = Vec::new(heap);
         for token in tokens.split(' ') {
             match token.split_once('*') {
@@ -28,11 +26,11 @@ impl<'l> Case<'l> {
 }
 
 /// Appends a byte, a pair of hexadecimal digits, as often as `count` says.
-fn push_run(bytes: &mut Vec<u8>, byte: &[u8], count: &str) -> anyhow::Result<()> {
-    let [high, low] = byte else {
-        return Err(anyhow!("a repeated byte is no pair of digits"));
+fn push_run(bytes: &mut Vec<u8>, pair: &[u8], count: &str) -> anyhow::Result<()> {
+    let &[high, low] = pair else {
+        bail!("a repeated byte is no pair of digits");
     };
-    let byte = hex_byte(*high, *low)?;
+    let byte = hex_byte([high, low])?;
     let len = bytes.len().saturating_add(count.parse::<usize>()?);
     bytes.resize(len, byte)?;
     Ok(())
@@ -40,11 +38,19 @@ fn push_run(bytes: &mut Vec<u8>, byte: &[u8], count: &str) -> anyhow::Result<()>
 
 /// Appends a byte for each pair of digits.
 fn push_pairs(bytes: &mut Vec<u8>, digits: &[u8]) -> anyhow::Result<()> {
-    if digits.len() % 2 != 0 {
-        return Err(anyhow!("a digit without its pair"));
-    }
-    for pair in digits.chunks_exact(2) {
-        bytes.push(hex_byte(pair[0], pair[1])?)?;
+    let (pairs, rest) = digits.as_chunks();
+    ensure!(rest.is_empty(), "a digit without its pair");
+    for pair in pairs {
+        bytes.push(hex_byte(*pair)?)?;
     }
     Ok(())
+}
+
+/// The byte of two hexadecimal digits, of which capitals are none.
+fn hex_byte(digits: [u8; 2]) -> anyhow::Result<u8> {
+    let has_capital = digits.iter().any(|digit| digit.is_ascii_uppercase());
+    match <[u8; 1]>::from_hex(digits) {
+        Ok(byte) if !has_capital => Ok(byte[0]),
+        _ => bail!("no hexadecimal digit"),
+    }
 }

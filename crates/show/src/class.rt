@@ -1,5 +1,5 @@
 //! A class as it is shown.
-use crate::member::write_member;
+use crate::member::Entry;
 use crate::text::Text;
 use sheet::{Class, Sheet};
 use std::fmt;
@@ -14,22 +14,22 @@ pub struct Listing<'s> {
 impl fmt::Display for Listing<'_> {
     fn fmt<W: fmt::Write>(&self, f: &mut fmt::Formatter<W>) -> fmt::Result {
         let class = self.class;
-        let name = Text {
-            bytes: self.sheet.part(class.name),
-        };
-        write!(f, "class {name}")?;
-        if let Some(place) = class.superclass {
-            let superclass = Text {
-                bytes: self.sheet.part(place),
-            };
-            write!(f, " extends {superclass}")?;
+        let sheet = self.sheet;
+        write!(f, "class {}", Text::new(sheet, class.name))?;
+        if let Some(superclass) = class.superclass {
+            write!(f, " extends {}", Text::new(sheet, superclass))?;
         }
-        f.write_str("\n")?;
+        writeln!(f)?;
         for (number, member) in class.members.iter().enumerate() {
-            write_member(number, member.parts(), self.sheet, f)?;
+            let entry = Entry {
+                number,
+                parts: member.parts(),
+                sheet,
+            };
+            write!(f, "{entry}")?;
         }
         match class.members.len() {
-            1 => f.write_str("1 member\n"),
+            1 => writeln!(f, "1 member"),
             count => writeln!(f, "{count} members"),
         }
     }

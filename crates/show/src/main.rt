@@ -8,7 +8,8 @@ mod text;
 
 use class::Listing;
 use formats::MOST_BYTES;
-use sheet::{Refusal, Sheet};
+use sheet::Sheet;
+use std::alloc::Global;
 use std::io;
 use std::io::{ErrorKind, Read};
 use std::process::ExitCode;
@@ -16,38 +17,15 @@ use std::process::ExitCode;
 /// No more of the input is read than this: with one byte over its limit a sheet is refused, whatever follows.
 const MOST_INPUT: usize = MOST_BYTES + 1;
 
-/// Why the program ends with status 1.
-#[derive(Clone, Copy)]
-enum Failure {
-    /// The sheet is refused, and the line that says so is printed.
-    Refused,
-    /// The input cannot be read, the output cannot be written, or memory is wanting.
-    System(io::Error),
-}
-
-impl From<io::Error> for Failure {
-    fn from(error: io::Error) -> Failure {
-        Failure::System(error)
-    }
-}
-
-fn read_input(rt: &HostRuntime) -> io::Result<Vec<u8>> {
-    let mut bytes = Vec::with_capacity(rt.alloc(), MOST_INPUT)?;
-    rt.stdin().take(MOST_INPUT as u64).read_to_end(&mut bytes)?;
+fn read_input(alloc: Global, input: impl Read + Drop) -> io::Result<Vec<u8>> {
+    let mut bytes = Vec::with_capacity(alloc, MOST_INPUT)?;
+    input.take(MOST_INPUT as u64).read_to_end(&mut bytes)?;
     Ok(bytes)
 }
 
-/// Prints a refusal, and says why the program ends.
-fn refuse(rt: &HostRuntime, refusal: Refusal) -> io::Result<Failure> {
-    let Some(numbered) = refusal.numbered() else {
-        return Err(io::Error::from(ErrorKind::OutOfMemory));
-    };
-    println!(rt; "{numbered}")?;
-    Ok(Failure::Refused)
-}
-
-fn run(rt: &HostRuntime) -> Result<(), Failure> {
-    let input = read_input(rt)?;
+/// Prints the class or the refusal, and says how the program ends. A refusal is an answer, and no error.
+fn run(rt: &(impl Print + AllocGlobal), input: impl Read + Drop) -> io::Result<ExitCode> {
+    let input = read_input(rt.alloc(), input)?;
     let bytes = input.as_slice();
     match sheet::read(rt.alloc(), bytes) {
         Ok(class) => {
@@ -56,17 +34,21 @@ fn run(rt: &HostRuntime) -> Result<(), Failure> {
                 sheet: Sheet::first(bytes),
             };
             rt.print(listing)?;
-            Ok(())
+            Ok(ExitCode::SUCCESS)
         }
-        Err(refusal) => Err(refuse(rt, refusal)?),
+        Err(refusal) => {
+            // What has no number is want of memory.
+            let numbered = refusal.numbered().ok_or(ErrorKind::OutOfMemory)?;
+            rt.println(numbered)?;
+            Ok(ExitCode::FAILURE)
+        }
     }
 }
 
 fn main(rt: HostRuntime) -> ExitCode {
-    match run(&rt) {
-        Ok(()) => ExitCode::SUCCESS,
-        Err(Failure::Refused) => ExitCode::FAILURE,
-        Err(Failure::System(error)) => {
+    match run(&rt, rt.stdin()) {
+        Ok(code) => code,
+        Err(error) => {
             let _ = eprintln!(rt; "show: {error}");
             ExitCode::FAILURE
         }

@@ -1,4 +1,5 @@
 //! Texts of a sheet on a line of a terminal.
+use sheet::{Place, Sheet};
 use std::fmt;
 
 /// A text of a sheet, shown on one line and without a control character.
@@ -6,45 +7,64 @@ use std::fmt;
 /// Printable ASCII stands as it is, but for the backslash. What lies beyond ASCII does so too if the whole text is UTF-8.
 #[derive(Clone, Copy)]
 pub struct Text<'s> {
-    pub bytes: &'s [u8],
+    bytes: &'s [u8],
+}
+
+/// A text with a blank before it, or nothing where the text is empty. It ends a line.
+#[derive(Clone, Copy)]
+pub struct Spaced<'s>(Text<'s>);
+
+impl<'s> Text<'s> {
+    /// The text at a place of a sheet.
+    pub fn new(sheet: Sheet<'s>, place: Place) -> Text<'s> {
+        Text {
+            bytes: sheet.part(place),
+        }
+    }
+
+    /// The text with a blank before it.
+    pub fn spaced(self) -> Spaced<'s> {
+        Spaced(self)
+    }
 }
 
 /// Writes a character as it is, or a control character or a backslash as an escape.
 fn write_char<W: fmt::Write>(c: char, f: &mut fmt::Formatter<W>) -> fmt::Result {
+    // The library's own escapes would change quotation marks too.
     match c {
         '\n' => f.write_str("\\n"),
         '\r' => f.write_str("\\r"),
         '\t' => f.write_str("\\t"),
         '\\' => f.write_str("\\\\"),
-        '\0'..='\x1f' | '\x7f'..='\u{9f}' => {
-            let code = u32::from(c);
-            write!(f, "\\x{code:02x}")
-        }
+        _ if c.is_control() => write!(f, "\\x{:02x}", u32::from(c)),
         _ => f.write_char(c),
     }
 }
 
-/// Writes bytes that are no UTF-8.
-fn write_bytes<W: fmt::Write>(bytes: &[u8], f: &mut fmt::Formatter<W>) -> fmt::Result {
-    for b in bytes {
-        if b.is_ascii() {
-            write_char(char::from(*b), f)?;
-        } else {
-            let code = *b;
-            write!(f, "\\x{code:02x}")?;
-        }
+/// Writes a byte of a text that is no UTF-8.
+fn write_byte<W: fmt::Write>(byte: u8, f: &mut fmt::Formatter<W>) -> fmt::Result {
+    if byte.is_ascii() {
+        write_char(char::from(byte), f)
+    } else {
+        write!(f, "\\x{byte:02x}")
     }
-    Ok(())
 }
 
 impl fmt::Display for Text<'_> {
     fn fmt<W: fmt::Write>(&self, f: &mut fmt::Formatter<W>) -> fmt::Result {
-        let Ok(text) = std::str::from_utf8(self.bytes) else {
-            return write_bytes(self.bytes, f);
-        };
-        for c in text.chars() {
-            write_char(c, f)?;
+        match std::str::from_utf8(self.bytes) {
+            Ok(text) => text.chars().try_for_each(|c| write_char(c, f)),
+            Err(_) => self.bytes.iter().try_for_each(|byte| write_byte(*byte, f)),
         }
-        Ok(())
+    }
+}
+
+impl fmt::Display for Spaced<'_> {
+    fn fmt<W: fmt::Write>(&self, f: &mut fmt::Formatter<W>) -> fmt::Result {
+        let text = self.0;
+        if text.bytes.is_empty() {
+            return Ok(());
+        }
+        write!(f, " {text}")
     }
 }

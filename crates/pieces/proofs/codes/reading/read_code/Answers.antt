@@ -1,5 +1,5 @@
 use Rattle.std.proofs.Common.{rules}
-use Rattle.pieces.proofs.codes.read_code.Goals as goal
+use Rattle.pieces.proofs.codes.reading.read_code.Goals as goal
 
 pub returns-clause-code : goal.returns-clause-code
 returns-clause-code g c =
