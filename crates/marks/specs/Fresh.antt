@@ -1,7 +1,7 @@
 -- What a list has still to give.
-use Rattle.std.specs.Prelude.{◌≡◌, ℕ, ◌+◌, ◌<◌, true, false, cond, not, ◌&&◌, List, [], ◌∷◌, ◌++◌, length, take, drop, Ok, Err, Result, slice_index_or, refl}
+use Rattle.std.specs.Prelude.{◌≡◌, ℕ, ◌+◌, ◌<◌, ◌≤◌, true, false, cond, not, ◌&&◌, List, [], ◌∷◌, ◌++◌, length, take, drop, Ok, Err, Result, slice_index_or, refl}
 use Rattle.std.proofs.Common.{arith, ◌∙◌}
-use Rattle.std.proofs.lemmas.List.{take_more, at_drop_more}
+use Rattle.std.proofs.lemmas.List.{take_more, at_drop_more, at_drop_all}
 use Rattle.std.proofs.lemmas.Bool.Decides.{nat_tests}
 use Rattle.marks.specs.declared.source.Exhausted.{Exhausted}
 use Rattle.marks.specs.Sets.{mark, among, Within, Draws}
@@ -27,10 +27,17 @@ fresh_once seen (x ∷ xs) m ys h =
     let rest = fresh_unseen (seen ++ x ∷ []) xs x in
     grind (arith, nat_tests)
 
--- x is what a list has after its first i
-pub left_next : (xs : List ℕ) (i x : ℕ) → i < length xs → x ≡ slice_index_or xs i x →
+pub left_none : (xs : List ℕ) (i : ℕ) → length xs ≤ i → left xs i ≡ []
+left_none xs i h = at_drop_all (fresh (take i xs)) xs i h
+
+pub left_next : (xs : List ℕ) (i : ℕ) → i < length xs →
+    let x = slice_index_or xs i 0 in left xs i ≡ cond (mark x && not (among (take i xs) x)) (x ∷ left xs (i + 1)) []
+left_next xs i h = rw (take_more xs i 0 h) (at_drop_more (fresh (take i xs)) xs i 0 h)
+
+-- the same, where x is what the list has after its first i
+pub left_at : (xs : List ℕ) (i x : ℕ) → i < length xs → x ≡ slice_index_or xs i x →
     left xs i ≡ cond (mark x && not (among (take i xs) x)) (x ∷ left xs (i + 1)) []
-left_next xs i x h is = rw (take_more xs i x h, ← is) (at_drop_more (fresh (take i xs)) xs i x h ∙ rw (← is))
+left_at xs i x h is = rw (take_more xs i x h, ← is) (at_drop_more (fresh (take i xs)) xs i x h ∙ rw (← is))
 
 pub left_marks : (xs : List ℕ) (i : ℕ) → Within (among (left xs i)) mark
 left_marks xs i = fresh_marks (take i xs) (drop i xs)
