@@ -11,7 +11,7 @@ pub struct Entry<'s> {
     pub sheet: Sheet<'s>,
 }
 
-/// What the text of a member of this kind is called, where it has only one.
+/// What the text of a member of this kind is called, where it has only one. Kinds share these words, so this is no `Display`.
 fn text_word(kind: Kind) -> &'static str {
     match kind {
         Kind::Field | Kind::Accessor => "value",
