@@ -12,16 +12,20 @@ use Rattle.sheet.specs.declared.opening.Opening.{Opening}
 abbrev pub superclass_of : Place → Option Place
 superclass_of p = cond (p.length == 0) None (Some p)
 
-abbrev pub opening_at : List ℕ → Result (Opening × ℕ) ReadFault
-opening_at s =
-    then (byte_at s 0)
+-- at `at`
+abbrev pub opening_from : List ℕ → ℕ → Result (Opening × ℕ) ReadFault
+opening_from s at =
+    then (byte_at s at)
     (λ version. cond (version == 1)
-    (then (text_at s 1)
+    (then (text_at s (at + 1))
     (λ name. cond (is_name (bytes_at s name))
     (then (text_at s (end name))
     (λ parent. then (byte_at s (end parent))
     (λ n. cond (nat_le n 64)
     (Ok (record { name = name; superclass = superclass_of parent; count = n }, end parent + 1))
     (Err (Unknown (end parent))))))
-    (Err (NoName 1))))
+    (Err (NoName (at + 1)))))
     (Err Version))
+
+abbrev pub opening_at : List ℕ → Result (Opening × ℕ) ReadFault
+opening_at s = opening_from s 0

@@ -1,7 +1,7 @@
 //! What stands before the members: version, class name, superclass, and how many members there are.
 ghost use Rattle.std.specs.Prelude.{◌≡◌};
 ghost use Rattle.formats.specs.Cursors.{bytes_in, with_next};
-ghost use Rattle.sheet.specs.Opening.{opening_at};
+ghost use Rattle.sheet.specs.Opening.{opening_from};
 
 use formats::{Cursor, Place, ReadFault, is_name};
 
@@ -17,8 +17,7 @@ pub struct Opening {
 
 /// What the sheet begins with.
 pub(crate) fn read_opening(cursor: &mut Cursor<'_>) -> Result<Opening, ReadFault>
-    requires { cursor.old.at ≡ 0 }
-    ensures opening { with_next result cursor.new.at ≡ opening_at (bytes_in cursor.old) }
+    ensures opening { with_next result cursor.new.at ≡ opening_from (bytes_in cursor.old) cursor.old.at }
     ensures sheet { cursor.new.sheet ≡ cursor.old.sheet }
 {
     if cursor.byte()? != 1 {
