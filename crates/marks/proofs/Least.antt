@@ -11,7 +11,8 @@ use Rattle.marks.specs.Skips.{Skips}
 use Rattle.marks.proofs.Counted.{counts_draws}
 use Rattle.marks.specs.Passing.{skipped_same, skips_draws}
 
-pub least : {s t : Reserved Counter} {r : Result ℕ Exhausted} → (t.table ≡ s.table) × Skips CounterSteps s.table s.below r t.below → DrawsLeast s r t
+pub least : {s t : Reserved Counter} {r : Result ℕ Exhausted} → (t.table ≡ s.table) × Skips CounterSteps s.table s.below r t.below →
+    DrawsLeast s r t
 least {s = s} {t = t} {r = Ok n} (same, (ms, u, before, step, passes)) =
     let (is_free, rest) = skips_draws counter_free CounterSteps counts_draws s.table s.below (Ok n) t.below (ms, u, before, step, passes) in
     let is : n ≡ u.next = grind (arith, nat_tests) in (
@@ -43,8 +44,8 @@ none_below_all s zero h k l = absurd (omega arith)
 none_below_all s (suc n) h k l = let rest = none_below_all s n in let k-below = rest (grind arith) k in grind (arith, nat_tests)
 
 -- there is one least mark
-pub only_least : {s t : Set} {r : Result ℕ Exhausted} → LeastOf s r t → (m : ℕ) {free : Set} → ((k : ℕ) → s k ≡ free k) → is_least free m ≡ true →
-    (r ≡ Ok m) × ((k : ℕ) → t k ≡ without free m k)
+pub only_least : {s t : Set} {r : Result ℕ Exhausted} → LeastOf s r t → (m : ℕ) {free : Set} → ((k : ℕ) → s k ≡ free k) →
+    is_least free m ≡ true → (r ≡ Ok m) × ((k : ℕ) → t k ≡ without free m k)
 only_least {r = Ok n} (is_free, none-less, rest) m {free = free} is shown =
     let is-n = is n in
     let is_m = is m in

@@ -40,7 +40,8 @@ module _ {S : Type 0} (steps : S → Result ℕ Exhausted → S → Type 0) wher
   drawn_push (k ∷ ms) m s u t (v, first, others) step = (v, first, drawn_push ms m v u t others step)
 
 -- The first i places of xs hold what was drawn from s, in the order of the draws, and u is left. The other places are as in ys.
-pub record DrawnInto {S : Type 0} (free : S → Set) (steps : S → Result ℕ Exhausted → S → Type 0) (s : S) (ys : List ℕ) (i : ℕ) (xs : List ℕ) (u : S) : Type 0 where
+pub record DrawnInto {S : Type 0} (free : S → Set) (steps : S → Result ℕ Exhausted → S → Type 0)
+    (s : S) (ys : List ℕ) (i : ℕ) (xs : List ℕ) (u : S) : Type 0 where
   pub takes : Takes (free s) (take i xs) (free u)
   pub rest : drop i xs ≡ drop i ys
   pub drawn : Drawn steps (take i xs) s u

@@ -1,5 +1,6 @@
 -- What a list has still to give.
-use Rattle.std.specs.Prelude.{◌≡◌, ℕ, ◌+◌, ◌<◌, ◌≤◌, true, false, cond, not, ◌&&◌, List, [], ◌∷◌, ◌++◌, length, take, drop, Ok, Err, Result, slice_index_or, refl}
+use Rattle.std.specs.Prelude.{◌≡◌, ℕ, ◌+◌, ◌<◌, ◌≤◌, true, false, cond, not, ◌&&◌, List, [], ◌∷◌, ◌++◌, length, take, drop, slice_index_or, refl}
+use Rattle.std.specs.Prelude.{Ok, Err, Result}
 use Rattle.std.proofs.Common.{arith, ◌∙◌}
 use Rattle.std.proofs.lemmas.List.{take_more, at_drop_more, at_drop_all}
 use Rattle.std.proofs.lemmas.Bool.Decides.{nat_tests}
@@ -43,7 +44,8 @@ pub left_marks : (xs : List ℕ) (i : ℕ) → Within (among (left xs i)) mark
 left_marks xs i = fresh_marks (take i xs) (drop i xs)
 
 -- what a list gives is free, and it takes out just that
-pub gives_draws : (xs : List ℕ) (i : ℕ) (ys : List ℕ) (r : Result ℕ Exhausted) → Gives (left xs i) r ys → Draws (among (left xs i)) r (among ys)
+pub gives_draws : (xs : List ℕ) (i : ℕ) (ys : List ℕ) (r : Result ℕ Exhausted) → Gives (left xs i) r ys →
+    Draws (among (left xs i)) r (among ys)
 gives_draws xs i ys r h = by (left xs i) (fresh_once (take i xs) (drop i xs)) r h
   where
     by : (ws : List ℕ) → ((m : ℕ) (zs : List ℕ) → ws ≡ m ∷ zs → among zs m ≡ false) → (r : Result ℕ Exhausted) → Gives ws r ys →

@@ -15,7 +15,8 @@ module _ {S : Type 0} (free : S → Set) (steps : S → Result ℕ Exhausted →
       let taken = (draws u (Ok m) t step).1 k in
       grind (arith, nat_tests)
 
-  pub skips_draws : (s : S) (r : Result ℕ Exhausted) (t : S) → Skips steps table s r t → Draws (except (free s) table) r (except (free t) table)
+  pub skips_draws : (s : S) (r : Result ℕ Exhausted) (t : S) → Skips steps table s r t →
+      Draws (except (free s) table) r (except (free t) table)
   skips_draws s (Ok m) t (ms, u, before, step, passes) =
       let same = skipped_same ms s u before in
       let drawn = draws u (Ok m) t step in

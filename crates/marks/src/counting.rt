@@ -8,7 +8,7 @@ use crate::source::{Exhausted, Marks};
 /// Gives the marks from the one that it stands at up to 65,535, the least first.
 #[derive(Drop)]
 pub struct Counter {
-    /// 0 once all are given: 0 is none in `new` too, and in an `Option` both `None` and `Some(0)` would be none.
+    /// 0 once all are given, as in `new`: an `Option` would have both `None` and `Some(0)` for that.
     next: u16,
 }
 

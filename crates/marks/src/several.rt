@@ -10,7 +10,8 @@ use crate::source::{Exhausted, Marks};
 pub fn draw_into<S: Marks>(source: &mut S, out: &mut [u16]) -> Result<(), Exhausted>
     ensures answers { result ≡ report (length out.old) (size (S.free source.old)) }
     ensures takes { Takes (S.free source.old) (take (min (length out.old) (size (S.free source.old))) out.new) (S.free source.new) }
-    ensures rest { drop (min (length out.old) (size (S.free source.old))) out.new ≡ drop (min (length out.old) (size (S.free source.old))) out.old }
+    ensures rest { drop (min (length out.old) (size (S.free source.old))) out.new
+        ≡ drop (min (length out.old) (size (S.free source.old))) out.old }
     ensures steps { Several S.steps result (take (min (length out.old) (size (S.free source.old))) out.new) source.old source.new }
 {
     for (drawn, slot) in out.iter_mut().enumerate() {

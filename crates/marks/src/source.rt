@@ -1,8 +1,8 @@
 //! What a source of marks is.
 ghost use Rattle.std.specs.Prelude.{◌≡◌, ℕ, Result, Some};
+ghost use Rattle.refusals.specs.Told.{told};
 ghost use Rattle.marks.specs.declared.source.Exhausted.{Exhausted};
 ghost use Rattle.marks.specs.Refusals.{marks_refusal};
-ghost use Rattle.refusals.specs.Told.{told};
 ghost use Rattle.marks.specs.Sets.{Set, mark, Within, Draws};
 
 use refusals::{Layer, Numbered};
@@ -24,7 +24,7 @@ impl Exhausted {
 }
 
 impl From<Exhausted> for Numbered {
-    ghost from_gives = { λ refusal told. told ≡ marks_refusal refusal };
+    ghost from_gives = { λ refusal numbered. numbered ≡ marks_refusal refusal };
 
     fn from(refusal: Exhausted) -> Numbered {
         Numbered {
