@@ -10,7 +10,7 @@ use crate::members::{text_of, treatment_of};
 use crate::tables::Table;
 use pieces::codes::{KeyKind, Kind};
 use rules::{
-    Descriptor, DescriptorKey, Extra, Function, HandKey, Made, MadeForm, PrivateField, Treatment,
+    Descriptor, DescriptorKey, Extra, Function, Made, MadeForm, Name, PrivateField, Treatment,
 };
 use sheet::Parts;
 
@@ -34,12 +34,12 @@ fn code_of(parts: &Parts) -> u8
     }
 }
 
-fn key_of(key: HandKey, parts: &Parts) -> DescriptorKey
+fn key_of(key: Option<Name>, parts: &Parts) -> DescriptorKey
     ensures { result ≡ descriptor_key key (seen_parts parts.now) }
 {
     match key {
-        HandKey::Computed(name) => DescriptorKey::Assigned(name),
-        HandKey::Written => match parts.key.kind {
+        Some(name) => DescriptorKey::Assigned(name),
+        None => match parts.key.kind {
             KeyKind::Identifier => DescriptorKey::Quoted(parts.key.text),
             _ => DescriptorKey::Written(parts.key.text),
         },

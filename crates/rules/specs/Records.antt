@@ -18,8 +18,6 @@ use Rattle.rules.specs.declared.describing.Extra.TheVariants as extras
 use Rattle.rules.specs.declared.describing.Function.{Function}
 use Rattle.rules.specs.declared.describing.PrivateField.{PrivateField}
 use Rattle.rules.specs.declared.describing.PrivateField.TheVariants as fields
-use Rattle.rules.specs.declared.forming.HandKey.{HandKey}
-use Rattle.rules.specs.declared.forming.HandKey.TheVariants as keys
 use Rattle.rules.specs.declared.forming.Access.{Access}
 use Rattle.rules.specs.declared.forming.Storage.{Storage}
 use Rattle.rules.specs.declared.forming.MadeForm.{MadeForm}
@@ -70,9 +68,10 @@ written_key kinds.Literal t = Written t
 written_key kinds.ComputedIdentifier t = Written t
 written_key kinds.Computed t = Written t
 
-abbrev pub descriptor_key : HandKey → Seen → DescriptorKey
-descriptor_key keys.Written m = written_key m.key.kind m.key.text
-descriptor_key (keys.Computed name) m = Assigned name
+-- the name of the computed identifier that replaces the member's key, or else the key as the member has it
+abbrev pub descriptor_key : Option Name → Seen → DescriptorKey
+descriptor_key None m = written_key m.key.kind m.key.text
+descriptor_key (Some name) m = Assigned name
 
 abbrev pub old_function : Seen → Body
 old_function m = record {

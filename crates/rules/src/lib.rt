@@ -13,7 +13,7 @@ pub use describing::{
     Assignment, Decoration, Decorators, Descriptor, DescriptorKey, Extra, Function, PrivateField,
 };
 pub use forming::{
-    Access, Constructor, Frame, HandKey, Held, Initializer, Made, MadeForm, Storage, StorageStem,
+    Access, Constructor, Frame, Held, Initializer, Made, MadeForm, Storage, StorageStem,
 };
 pub use naming::{Name, Stem};
 pub use treating::{Starters, Treatment};
