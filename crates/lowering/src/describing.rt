@@ -47,34 +47,33 @@ fn key_of(key: Option<Name>, parts: &Parts) -> DescriptorKey
 }
 
 /// What follows the key in the descriptor of a private member.
-fn extra_of(form: MadeForm, parts: &Parts) -> Extra
+fn extra_of(form: MadeForm, parts: &Parts) -> Option<Extra>
     ensures { more_of result ≡ more_for form (seen_parts parts.now) }
 {
     match form {
         MadeForm::Initialized {
-            initializer: _,
             parameter: Some(parameter),
-        } => Extra::Access {
+            ..
+        } => Some(Extra::Access {
             field: PrivateField::Written(parts.key.text),
             parameter,
-        },
+        }),
         MadeForm::StoredDecorated {
             storage,
-            initializer: _,
-            starts: _,
             parameter,
             access: Some(_),
-        } => Extra::Access {
+            ..
+        } => Some(Extra::Access {
             field: PrivateField::Stored(storage),
             parameter,
-        },
-        MadeForm::Called { name: _ } => Extra::Function(Function {
+        }),
+        MadeForm::Called { .. } => Some(Extra::Function(Function {
             is_async: parts.flags.is_async,
             is_generator: parts.flags.is_generator,
             parameters: parts.parameters,
             body: text_of(parts.body),
-        }),
-        _ => Extra::Nothing,
+        })),
+        _ => None,
     }
 }
 

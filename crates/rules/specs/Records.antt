@@ -50,10 +50,10 @@ pub record Described : Type 0 where
 abbrev pub body_of : Function → Body
 body_of f = record { async = f.is_async; generator = f.is_generator; parameters = listed f.parameters; text = f.body }
 
-abbrev pub more_of : Extra → More
-more_of extras.Nothing = nothing
-more_of (extras.Function f) = function (body_of f)
-more_of (extras.Access field parameter) = reaches field parameter
+abbrev pub more_of : Option Extra → More
+more_of None = nothing
+more_of (Some (extras.Function f)) = function (body_of f)
+more_of (Some (extras.Access field parameter)) = reaches field parameter
 
 abbrev pub described_of : Descriptor → Described
 described_of d = record { decorators = applied d.decorators; code = d.code; key = d.key; more = more_of d.extra }

@@ -23,7 +23,8 @@ pub enum Decoration {
 /// The decorators of a member as its descriptor has them, in written order.
 #[derive(Clone, Copy)]
 pub enum Decorators {
-    /// Of a member that is not decorated; no descriptor has it.
+    /// Of a member that is not decorated; no descriptor has it. An Option of the other two would not say more, and would ask for
+    /// an invariant wherever a descriptor is made.
     Nothing,
     /// One stands bare.
     Bare(Decoration),
@@ -66,7 +67,6 @@ pub enum PrivateField {
 /// What follows the key in the descriptor of a private member.
 #[derive(Clone, Copy)]
 pub enum Extra {
-    Nothing,
     Function(Function),
     /// A getter and a setter of a field; the setter has this parameter.
     Access {
@@ -82,5 +82,6 @@ pub struct Descriptor {
     /// The code of the kind, and 5 more if static.
     pub code: u8,
     pub key: DescriptorKey,
-    pub extra: Extra,
+    /// Of a private member alone.
+    pub extra: Option<Extra>,
 }
