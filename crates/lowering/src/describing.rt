@@ -2,37 +2,17 @@
 ghost use Rattle.std.specs.Prelude.{◌≡◌, ◌+◌, ◌≤◌, [], ◌++◌, map, length, filter};
 ghost use Rattle.sheet.specs.Seen.{seen_parts};
 ghost use Rattle.rules.specs.Members.{starts};
-ghost use Rattle.rules.specs.Records.{code, descriptor_key, more_for, more_of, describe, described_of, in_group, in_order};
+ghost use Rattle.rules.specs.Records.{descriptor_key, more_for, more_of, describe, described_of, in_group, in_order};
 ghost use Rattle.rules.specs.Walks.{item_of};
 ghost use Rattle.lowering.specs.Rows.{rows_of};
 
 use crate::members::{text_of, treatment_of};
 use crate::tables::Table;
-use pieces::codes::{KeyKind, Kind};
+use pieces::codes::KeyKind;
 use rules::{
-    Descriptor, DescriptorKey, Extra, Function, Made, MadeForm, Name, PrivateField, Treatment,
+    Code, Descriptor, DescriptorKey, Extra, Function, Made, MadeForm, Name, PrivateField, Treatment,
 };
 use sheet::Parts;
-
-/// The code of the kind, and 5 more for a static member.
-fn code_of(parts: &Parts) -> u8
-    ensures { result ≡ code (seen_parts parts.now) }
-{
-    let kind = match parts.kind {
-        Kind::Field => 0,
-        Kind::Accessor => 1,
-        Kind::Method => 2,
-        Kind::Getter => 3,
-        Kind::Setter => 4,
-        Kind::Constructor => 5,
-        Kind::Other => 6,
-    };
-    if parts.flags.is_static {
-        kind + 5
-    } else {
-        kind
-    }
-}
 
 fn key_of(key: Option<Name>, parts: &Parts) -> DescriptorKey
     ensures { result ≡ descriptor_key key (seen_parts parts.now) }
@@ -84,7 +64,10 @@ fn describe_one(made: &Made) -> Descriptor
     let parts = made.held.member.parts();
     Descriptor {
         decorators: made.decorators,
-        code: code_of(parts),
+        code: Code {
+            kind: parts.kind,
+            is_static: parts.flags.is_static,
+        },
         key: key_of(made.held.key, parts),
         extra: extra_of(made.form, parts),
     }

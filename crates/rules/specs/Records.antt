@@ -3,6 +3,7 @@ use Rattle.std.specs.Prelude.{ℕ, ◌+◌, Bool, true, false, cond, List, [], �
 use Rattle.std.specs.List.{flat_map}
 use Rattle.formats.specs.declared.Place.{Place}
 use Rattle.lists.specs.Listed.{listed}
+use Rattle.pieces.specs.Codes.{kind_code}
 use Rattle.pieces.specs.declared.codes.KeyKind.{KeyKind}
 use Rattle.pieces.specs.declared.codes.KeyKind.TheVariants as kinds
 use Rattle.pieces.specs.declared.parts.Parameter.{Parameter}
@@ -10,6 +11,7 @@ use Rattle.sheet.specs.Seen.{Seen}
 use Rattle.rules.specs.declared.naming.Stem.TheVariants.{Args}
 use Rattle.rules.specs.declared.naming.Name.{Name}
 use Rattle.rules.specs.declared.describing.Assignment.{Assignment}
+use Rattle.rules.specs.declared.describing.Code.{Code}
 use Rattle.rules.specs.declared.describing.Descriptor.{Descriptor}
 use Rattle.rules.specs.declared.describing.DescriptorKey.{DescriptorKey}
 use Rattle.rules.specs.declared.describing.DescriptorKey.TheVariants.{Quoted, Written, Assigned}
@@ -25,7 +27,7 @@ use Rattle.rules.specs.declared.forming.MadeForm.TheVariants.{AsWritten, Initial
 use Rattle.rules.specs.declared.forming.Constructor.{Constructor}
 use Rattle.rules.specs.declared.forming.Constructor.TheVariants as constructors
 use Rattle.rules.specs.declared.forming.Frame.{Frame}
-use Rattle.rules.specs.Members.{non_empty, starts, field_in, of_constructor, text_of, kind_code}
+use Rattle.rules.specs.Members.{non_empty, starts, field_in, of_constructor, text_of}
 use Rattle.rules.specs.Draws.{named, no_starters, constructor_calls, second_from, third_from, args_at}
 use Rattle.rules.specs.Walks.{Applied, applied, Item, some_if, first_walk, second_walk, third_walk, assignments_from}
 
@@ -55,11 +57,15 @@ more_of None = nothing
 more_of (Some (extras.Function f)) = function (body_of f)
 more_of (Some (extras.Access field parameter)) = reaches field parameter
 
+-- the number of the kind, and 5 more for a static member
+abbrev pub code_number : Code → ℕ
+code_number c = kind_code c.kind + cond c.is_static 5 0
+
 abbrev pub described_of : Descriptor → Described
-described_of d = record { decorators = applied d.decorators; code = d.code; key = d.key; more = more_of d.extra }
+described_of d = record { decorators = applied d.decorators; code = code_number d.code; key = d.key; more = more_of d.extra }
 
 abbrev pub code : Seen → ℕ
-code m = kind_code m.kind + cond m.flags.is_static 5 0
+code m = code_number (record { kind = m.kind; is_static = m.flags.is_static })
 
 -- a string for an identifier, else what stands in the brackets
 abbrev pub written_key : KeyKind → Place → DescriptorKey

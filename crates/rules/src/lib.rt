@@ -10,7 +10,8 @@ mod naming;
 mod treating;
 
 pub use describing::{
-    Assignment, Decoration, Decorators, Descriptor, DescriptorKey, Extra, Function, PrivateField,
+    Assignment, Code, Decoration, Decorators, Descriptor, DescriptorKey, Extra, Function,
+    PrivateField,
 };
 pub use forming::{
     Access, Constructor, Frame, Held, Initializer, Made, MadeForm, Storage, StorageStem,
