@@ -1,6 +1,7 @@
 -- The record of a lowered class.
 use Rattle.std.specs.Prelude.{ℕ, ◌+◌, Bool, true, false, cond, List, [], ◌∷◌, ◌++◌, map, is_some, Some, None, filter, Option}
 use Rattle.std.specs.List.{flat_map}
+use Rattle.std.specs.Option.{option_to_list}
 use Rattle.formats.specs.declared.Place.{Place}
 use Rattle.lists.specs.Listed.{listed}
 use Rattle.pieces.specs.Codes.{kind_code}
@@ -129,10 +130,6 @@ in_order f xs =
     ++ (filter (λ x. in_group false true (f x)) xs
     ++ filter (λ x. in_group false false (f x)) xs))
 
-abbrev pub list_of : {X : Type 0} → Option X → List X
-list_of None = []
-list_of (Some x) = x ∷ []
-
 -- the starter of a half is drawn with its first decorated non-field
 abbrev pub starter_of : Bool → List Item → Option Name
 starter_of half [] = None
@@ -181,7 +178,7 @@ third_names (StoredDecorated storage init starts parameter access) = []
 third_names (Called name) = []
 
 abbrev pub starter_names : List Item → List Name
-starter_names is = list_of (starter_of false is) ++ list_of (starter_of true is)
+starter_names is = option_to_list (starter_of false is) ++ option_to_list (starter_of true is)
 
 -- The names that a made form uses, in the order of the results: in a value, in a getter and a setter, in a made body.
 abbrev pub item_names : Item → List Name
