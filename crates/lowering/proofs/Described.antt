@@ -1,26 +1,14 @@
 -- The descriptors, group by group and in a group one after another.
-use Rattle.std.proofs.Common.{◌≡◌, ℕ, ◌+◌, ◌<◌, ◌≤◌, Bool, true, List, ◌++◌, map, length, get_or, take, drop, filter, ap, ◌∙◌, arith}
+use Rattle.std.proofs.Common.{◌≡◌, ℕ, ◌+◌, ◌<◌, ◌≤◌, List, map, length, get_or, take, filter, ap, ◌∙◌, arith}
 use Rattle.std.specs.List.{flat_map}
-use Rattle.std.proofs.lemmas.List.{length-append, length-map, map-append, append-nil}
+use Rattle.std.proofs.lemmas.List.{length-map, map-append, append-nil}
 use Rattle.std.proofs.lemmas.List.Folds.{length-flat_map-take}
 use Rattle.rules.specs.declared.describing.Descriptor.{Descriptor}
-use Rattle.rules.specs.declared.forming.Made.{Made}
 use Rattle.rules.specs.Records.{Described, describe, described_of, in_order}
-use Rattle.rules.specs.Walks.{Item, item_of}
+use Rattle.rules.specs.Walks.{Item}
 use Rattle.lowering.specs.declared.groups.Group.{Group}
 use Rattle.lowering.specs.Groups.{grouped}
 use Rattle.lowering.proofs.Grouped.{all_groups, in_order_few}
-use Rattle.lowering.proofs.Turns.{at_drop_item}
-
--- While a member of the group is left, the table is shorter than it will be.
-pub room_left : (group : Item → Bool) (xs : List Made) (i : ℕ) (x : Made) (rows old : List Descriptor) → i < length xs → x ≡ get_or xs i x → group (item_of x) ≡ true →
-    map described_of rows ++ map describe (filter group (map item_of (drop i xs))) ≡ map described_of old ++ map describe (filter group (map item_of xs)) →
-    length rows < length old + length (filter group (map item_of xs))
-room_left group xs i x rows old within is passed same =
-    let here = at_drop_item (λ ys. length (filter group (map item_of ys))) xs i x within is in
-    let one = rw passed at here in
-    let long = simp (length-append, length-map) at (ap length same) in
-    omega (arith, one, long)
 
 -- the descriptors of a group
 abbrev pub descriptors_of : List Item → Group → List Described

@@ -1,5 +1,5 @@
 -- The members of the groups, and how many they are.
-use Rattle.std.proofs.Common.{◌≡◌, ◌+◌, ◌≤◌, Bool, true, false, cond, ◌&&◌, List, [], ◌∷◌, length, filter, arith}
+use Rattle.std.proofs.Common.{◌+◌, ◌≤◌, Bool, true, false, cond, ◌&&◌, List, [], ◌∷◌, length, filter, arith}
 use Rattle.std.proofs.lemmas.List.{length-append}
 use Rattle.rules.specs.declared.treating.Treatment.{Treatment}
 use Rattle.rules.specs.declared.treating.Treatment.TheVariants.{Untouched, Stored, DecoratedField, DecoratedAccessor, DecoratedElement}

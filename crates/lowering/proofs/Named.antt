@@ -1,5 +1,5 @@
 -- The names in the order of the results, and the variables.
-use Rattle.std.proofs.Common.{◌≡◌, ℕ, ◌+◌, ◌*◌, ◌<◌, ◌≤◌, Bool, true, false, cond, not, List, [], ◌∷◌, ◌++◌, map, length, get_or, take, Some, None, Option, filter, Bor, sym, refl, ap, ◌∙◌, append-nil, arith}
+use Rattle.std.proofs.Common.{◌≡◌, ℕ, ◌+◌, ◌*◌, ◌<◌, ◌≤◌, Bool, true, false, cond, not, List, [], ◌∷◌, ◌++◌, map, length, get_or, take, Some, None, Option, filter, Bor, sym, refl, ap, append-nil, arith}
 use Rattle.std.specs.List.{flat_map, find}
 use Rattle.std.specs.Option.{option_to_list, option_map, option_and_then}
 use Rattle.std.proofs.lemmas.List.{length-append}
@@ -37,7 +37,7 @@ abbrev pub names_in : List Item → Group → List Name
 names_in is group = flat_map item_names (filter (grouped group) is)
 
 -- group by group they stand in order
-pub names_all : (is : List Item) → flat_map (names_in is) all_groups ≡ flat_map item_names (in_order (λ i. i.member) is)
+names_all : (is : List Item) → flat_map (names_in is) all_groups ≡ flat_map item_names (in_order (λ i. i.member) is)
 names_all is = simp (flat_map-append, append-nil)
 
 pub names_all_few : (is : List Item) → length (flat_map (names_in is) all_groups) ≤ 3 * length is
@@ -48,7 +48,7 @@ pub room_for_names : (is : List Item) (i : ℕ) (d : Group) (rows : List Name) �
     length rows + length (names_in is (get_or all_groups i d)) ≤ 3 * length is
 room_for_names is i d rows within so_far = omega (arith, ap length so_far, length-flat_map-take (names_in is) all_groups i d within, names_all_few is)
 
--- a form has names of one walk alone
+-- A form has names of one walk alone.
 second_or_third : (form : MadeForm) → cond (not (third form)) (second_names form ++ third_names form) [] ≡ second_names form
 second_or_third AsWritten = refl
 second_or_third (Initialized init parameter) = refl
@@ -56,7 +56,6 @@ second_or_third (Stored storage value parameter) = refl
 second_or_third (StoredDecorated storage init starts parameter access) = append-nil (init.name ∷ access_names access)
 second_or_third (Called name) = refl
 
--- nothing that has names in one walk has some in the other
 third_or_second : (form : MadeForm) → cond (third form) (second_names form ++ third_names form) [] ≡ third_names form
 third_or_second AsWritten = refl
 third_or_second (Initialized init parameter) = refl
@@ -64,6 +63,7 @@ third_or_second (Stored storage value parameter) = refl
 third_or_second (StoredDecorated storage init starts parameter access) = refl
 third_or_second (Called name) = refl
 
+-- Where what passes has the names f, and what does not has none of them, the names of those that pass are the names f.
 names_of_kept : (p : Item → Bool) (f : Item → List Name) → ((i : Item) → cond (p i) (item_names i) [] ≡ f i) → (is : List Item) → flat_map item_names (filter p is) ≡ flat_map f is
 names_of_kept p f same [] = refl
 names_of_kept p f same (i ∷ is) =
@@ -105,6 +105,7 @@ starters_few f = few f.instance_starter f.static_starter
     few (Some a) None = omega arith
     few (Some a) (Some b) = omega arith
 
+-- a decorated non-field of the half
 abbrev pub starting : Bool → Made → Bool
 starting half m = grouped (group half true) (item_of m)
 

@@ -1,5 +1,5 @@
 -- How many rows a table has.
-use Rattle.std.proofs.Common.{ℕ, ◌≤◌, map, length, ◌∙◌, arith}
+use Rattle.std.proofs.Common.{ℕ, ◌≤◌, map, length, arith}
 use Rattle.std.proofs.lemmas.List.{length-map}
 use Rattle.rules.specs.declared.forming.Made.{Made}
 use Rattle.rules.specs.Walks.{item_of}

@@ -1,5 +1,4 @@
-use Rattle.std.proofs.Common.{◌≡◌, ◌+◌, ◌≤◌, map, length, filter, ap, arith, lit<}
-use Rattle.std.specs.List.{flat_map}
+use Rattle.std.proofs.Common.{map, length, ap, arith, lit<}
 use Rattle.std.proofs.lemmas.List.{length-append, length-map, append_assoc, append-nil}
 use Rattle.rules.specs.Walks.{item_of}
 use Rattle.lowering.specs.Rows.{rows_of}

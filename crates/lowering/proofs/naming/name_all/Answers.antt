@@ -1,4 +1,4 @@
-use Rattle.std.proofs.Common.{false, map, length, take, ap, ◌∙◌, arith, lit<}
+use Rattle.std.proofs.Common.{false, map, length, ap, ◌∙◌, arith, lit<}
 use Rattle.std.specs.List.{flat_map}
 use Rattle.std.proofs.lemmas.List.{take_all}
 use Rattle.rules.specs.Walks.{item_of}
