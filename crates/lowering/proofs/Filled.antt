@@ -1,7 +1,6 @@
 -- The record that the walks fill.
-use Rattle.std.proofs.Common.{◌≡◌, Bool, true, false, ◌&&◌, List, [], ◌∷◌, ◌++◌, map, refl}
+use Rattle.std.proofs.Common.{◌≡◌, Bool, true, false, ◌&&◌, List, [], ◌∷◌, ◌++◌, map, None, refl}
 use Rattle.sheet.specs.declared.member.Member.{Member}
-use Rattle.rules.specs.declared.forming.HandKey.TheVariants.{Written}
 use Rattle.rules.specs.declared.forming.Held.{Held}
 use Rattle.lowering.specs.Hands.{is_written, all_written}
 
@@ -15,6 +14,6 @@ and_true true b d h f = f h
 and_true false b d h f = h
 
 -- one member more, with its key as it has it
-pub written_push : (hs : List Held) (m : Member) → all_written hs ≡ true → all_written (hs ++ record { member = m; key = Written } ∷ []) ≡ true
+pub written_push : (hs : List Held) (m : Member) → all_written hs ≡ true → all_written (hs ++ record { member = m; key = None } ∷ []) ≡ true
 written_push [] m all = refl
-written_push (h ∷ hs) m all = and_true (is_written h.key) (all_written hs) (all_written (hs ++ record { member = m; key = Written } ∷ [])) all (λ rest. written_push hs m rest)
+written_push (h ∷ hs) m all = and_true (is_written h.key) (all_written hs) (all_written (hs ++ record { member = m; key = None } ∷ [])) all (λ rest. written_push hs m rest)

@@ -3,7 +3,10 @@ pub mod Checking
 pub mod Counts
 pub mod Described
 pub mod Filled
+pub mod Grouped
+pub mod Kept
 pub mod Named
+pub mod Rooms
 pub mod Supplying
 pub mod Taken
 pub mod Turns

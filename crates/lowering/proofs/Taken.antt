@@ -1,5 +1,5 @@
 -- What walk 1 takes out, one decorator after another.
-use Rattle.std.proofs.Common.{◌≡◌, ℕ, suc, ◌+◌, ◌-◌, ◌<◌, ◌≤◌, Bool, true, false, cond, List, [], ◌∷◌, ◌++◌, length, get_or, take, drop, None, sym, ap, ◌∙◌, append_assoc, arith}
+use Rattle.std.proofs.Common.{◌≡◌, ℕ, suc, ◌+◌, ◌-◌, ◌<◌, ◌≤◌, Bool, true, false, cond, List, [], ◌∷◌, ◌++◌, length, get_or, take, drop, None, Option, sym, ap, ◌∙◌, append_assoc, arith}
 use Rattle.std.proofs.lemmas.List.{at_drop_more, take_all, length_push}
 use Rattle.pieces.specs.declared.parts.Decorator.{Decorator}
 use Rattle.pieces.specs.declared.codes.Shape.TheVariants.{Identifier}
@@ -9,7 +9,6 @@ use Rattle.rules.specs.declared.describing.Assignment.{Assignment}
 use Rattle.rules.specs.declared.describing.Decoration.{Decoration}
 use Rattle.rules.specs.declared.describing.Decoration.TheVariants.{Written, Assigned}
 use Rattle.sheet.specs.Seen.{Seen}
-use Rattle.rules.specs.declared.forming.HandKey.{HandKey}
 use Rattle.rules.specs.declared.forming.MadeForm.TheVariants.{AsWritten}
 use Rattle.rules.specs.Members.{taken, taken_out, replaced}
 use Rattle.rules.specs.Draws.{named}
@@ -73,7 +72,7 @@ module _ (walked : Bool) (ds : List Decorator) (marks : List ℕ) (i k : ℕ) (w
   rows_in rows new whole next stays step kept same = rw (step, kept) (ap (λ xs. rows ++ xs) (sym (assigned_in stays)) ∙ same)
 
 -- what walk 1 makes of a member
-pub made_first : (m n : Seen) (key : HandKey) (d : Applied) (marks : List ℕ) (k : ℕ) → n ≡ m → key ≡ hand_key marks k m → d ≡ merged (decorations (taken m) m.decorators marks k) →
+pub made_first : (m n : Seen) (key : Option Name) (d : Applied) (marks : List ℕ) (k : ℕ) → n ≡ m → key ≡ hand_key marks k m → d ≡ merged (decorations (taken m) m.decorators marks k) →
     ◌≡◌ {A = Item} (record { member = n; key = key; decorators = d; form = AsWritten; starter = None }) (first_item marks k m)
 made_first m n key d marks k same is all = cc
 

@@ -29,14 +29,3 @@ written_all f G xs i whole h none same =
     let all = take_all i xs h in
     let rest = at_drop_all (λ zs. G (map f zs)) xs i h in
     sym (append-nil (map f xs)) ∙ (ap (λ zs. map f zs ++ []) (sym all) ∙ (ap (λ zs. map f (take i xs) ++ zs) (sym none ∙ sym rest) ∙ same))
-
--- what one turn appends, and going on from there gives the same
-pub appended_more : {X Y : Type 0} (F : List X → List Y) (f : X → List Y) (xs : List X) (i : ℕ) (x : X) (rows new ys whole : List Y) → i < length xs → x ≡ get_or xs i x →
-    ((rest : List X) → F (x ∷ rest) ≡ f x ++ F rest) → new ≡ rows ++ ys → ys ≡ f x → rows ++ F (drop i xs) ≡ whole → new ++ F (drop (i + 1) xs) ≡ whole
-appended_more F f xs i x rows new ys whole h is turn pushed what same =
-    let here = at_drop_item F xs i x h is in
-    rw (pushed, append_assoc, what) (ap (λ zs. rows ++ zs) (sym (turn (drop (i + 1) xs)) ∙ sym here) ∙ same)
-
-pub appended_all : {X Y : Type 0} (F : List X → List Y) (xs : List X) (i : ℕ) (rows whole : List Y) → length xs ≤ i → F [] ≡ [] → rows ++ F (drop i xs) ≡ whole → rows ≡ whole
-appended_all F xs i rows whole h none same =
-    sym (append-nil rows) ∙ (ap (λ zs. rows ++ zs) (sym none ∙ sym (at_drop_all F xs i h)) ∙ same)

@@ -1,11 +1,10 @@
 -- One member of a walk.
-use Rattle.std.proofs.Common.{◌≡◌, ℕ, ◌+◌, ◌<◌, Bool, true, false, cond, ◌&&◌, List, [], ◌∷◌, ◌++◌, map, length, get_or, drop, set, count_by, sym, refl, ap, ◌∙◌, arith}
+use Rattle.std.proofs.Common.{◌≡◌, ℕ, ◌+◌, ◌<◌, Bool, true, false, cond, ◌&&◌, List, [], ◌∷◌, ◌++◌, map, length, get_or, drop, set, Some, None, Option, count_by, sym, refl, ap, ◌∙◌, arith}
 use Rattle.std.proofs.lemmas.List.{get_or-set_same, drop-drop, map_push, append_assoc}
 use Rattle.std.proofs.lemmas.List.Sums.{sum_by-cons}
 use Rattle.sheet.specs.Seen.{Seen}
 use Rattle.rules.specs.declared.describing.Assignment.{Assignment}
-use Rattle.rules.specs.declared.forming.HandKey.{HandKey}
-use Rattle.rules.specs.declared.forming.HandKey.TheVariants.{Written, Computed}
+use Rattle.rules.specs.declared.naming.Name.{Name}
 use Rattle.rules.specs.declared.forming.Held.{Held}
 use Rattle.rules.specs.declared.forming.Made.{Made}
 use Rattle.rules.specs.declared.treating.Starters.{Starters}
@@ -48,9 +47,9 @@ left_rest rows hs i same = sym (drop-drop 1 i rows) ∙ (ap (drop 1) same ∙ dr
 pub left_item : {X : Type 0} (rows hs : List X) (i : ℕ) (x : X) → i < length rows → x ≡ get_or rows i x → drop i rows ≡ drop i hs → drop i hs ≡ x ∷ drop (i + 1) hs
 left_item rows hs i x h is same = sym same ∙ (at_drop_item (λ zs. zs) rows i x h is ∙ ap (λ zs. x ∷ zs) (left_rest rows hs i same))
 
-pub key_written : (k : HandKey) → is_written k ≡ true → k ≡ Written
-key_written Written h = refl
-key_written (Computed name) h = cc
+pub key_written : (k : Option Name) → is_written k ≡ true → k ≡ None
+key_written None h = refl
+key_written (Some name) h = cc
 
 and_left : (a b : Bool) → a && b ≡ true → a ≡ true
 and_left true b h = refl
@@ -60,7 +59,7 @@ and_right : (a b : Bool) → a && b ≡ true → b ≡ true
 and_right true b h = h
 and_right false b h = cc
 
-pub first_written : (hs : List Held) (x : Held) (rest : List Held) → hs ≡ x ∷ rest → all_written hs ≡ true → x.key ≡ Written
+pub first_written : (hs : List Held) (x : Held) (rest : List Held) → hs ≡ x ∷ rest → all_written hs ≡ true → x.key ≡ None
 first_written hs x rest is all = key_written x.key (and_left (is_written x.key) (all_written rest) (sym (ap all_written is) ∙ all))
 
 pub rest_written : (hs : List Held) (x : Held) (rest : List Held) → hs ≡ x ∷ rest → all_written hs ≡ true → all_written rest ≡ true

@@ -22,7 +22,6 @@ use Rattle.rules.specs.declared.describing.Decoration.TheVariants.{Written, Assi
 use Rattle.rules.specs.declared.describing.DescriptorKey.{DescriptorKey}
 use Rattle.rules.specs.declared.describing.DescriptorKey.TheVariants as descriptorKeys
 use Rattle.rules.specs.declared.describing.PrivateField.TheVariants as fields
-use Rattle.rules.specs.declared.forming.HandKey.TheVariants as keys
 use Rattle.rules.specs.declared.forming.Initializer.{Initializer}
 use Rattle.rules.specs.declared.forming.StorageStem.{StorageStem}
 use Rattle.rules.specs.declared.forming.StorageStem.TheVariants.{Private, Public}
@@ -327,7 +326,7 @@ module _ (d f1 step of paid due ab unit returnNew zero returnTwo three four : Pl
     -- the key of member 4 is replaced
     pub keys_in_hand :
         map (λ i. i.key) (lowered_from_one false rate).members
-        ≡ keys.Written ∷ keys.Written ∷ keys.Written ∷ keys.Written ∷ keys.Computed (ComputedKey $ 2) ∷ keys.Written ∷ []
+        ≡ None ∷ None ∷ None ∷ None ∷ Some (ComputedKey $ 2) ∷ None ∷ []
     -- the accessors have the storages `#__paid_1` and `#___private_unit_2`
     pub made :
         forms (lowered_from_one false rate)

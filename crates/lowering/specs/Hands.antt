@@ -1,10 +1,9 @@
 -- The members in hand.
-use Rattle.std.specs.Prelude.{Bool, true, false, ◌&&◌, List, [], ◌∷◌, map}
+use Rattle.std.specs.Prelude.{Bool, true, false, ◌&&◌, List, [], ◌∷◌, map, Some, None, Option}
 use Rattle.sheet.specs.Seen.{Seen}
 use Rattle.sheet.specs.Members.{seen_member}
 use Rattle.sheet.specs.declared.member.Member.{Member}
-use Rattle.rules.specs.declared.forming.HandKey.{HandKey}
-use Rattle.rules.specs.declared.forming.HandKey.TheVariants.{Written, Computed}
+use Rattle.rules.specs.declared.naming.Name.{Name}
 use Rattle.rules.specs.declared.forming.Held.{Held}
 
 abbrev pub seen_held : Held → Seen
@@ -16,9 +15,10 @@ members_in hs = map (λ h. h.member) hs
 abbrev pub seen_hand : List Held → List Seen
 seen_hand hs = map seen_member (members_in hs)
 
-abbrev pub is_written : HandKey → Bool
-is_written Written = true
-is_written (Computed _) = false
+-- whether the key is as the member has it
+abbrev pub is_written : Option Name → Bool
+is_written None = true
+is_written (Some _) = false
 
 -- no key is replaced
 abbrev pub all_written : List Held → Bool

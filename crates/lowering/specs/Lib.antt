@@ -1,5 +1,6 @@
 pub mod Checks
 pub mod Examples
+pub mod Groups
 pub mod Hands
 pub mod Lowers
 pub mod Picks

@@ -18,13 +18,7 @@ fn is_head_misplaced(body: Option<Body>, derived: bool) -> bool
     ensures { result ≡ head_misplaced derived body }
 {
     match body {
-        Some(Body::Constructor { head, tail: _ }) => {
-            if derived {
-                head.length == 0
-            } else {
-                head.length != 0
-            }
-        }
+        Some(Body::Constructor { head, .. }) => derived == (head.length == 0),
         _ => false,
     }
 }

@@ -1,45 +1,24 @@
 //! The descriptors, in the order in which the helper gets them.
-ghost use Rattle.std.specs.Prelude.{◌≡◌, ◌+◌, ◌≤◌, [], ◌++◌, map, length, filter};
+ghost use Rattle.std.specs.Prelude.{◌≡◌, ◌+◌, ◌≤◌, ◌++◌, map, length, filter};
 ghost use Rattle.sheet.specs.Seen.{seen_parts};
-ghost use Rattle.rules.specs.Members.{starts};
-ghost use Rattle.rules.specs.Records.{code, descriptor_key, more_for, more_of, describe, described_of, in_group, in_order};
+ghost use Rattle.rules.specs.Records.{descriptor_key, more_for, more_of, describe, described_of, in_order};
 ghost use Rattle.rules.specs.Walks.{item_of};
+ghost use Rattle.lowering.specs.Groups.{grouped};
 ghost use Rattle.lowering.specs.Rows.{rows_of};
 
-use crate::members::{text_of, treatment_of};
+use crate::groups::{GROUPS, Group};
+use crate::members::text_of;
 use crate::tables::Table;
-use pieces::codes::{KeyKind, Kind};
-use rules::{
-    Descriptor, DescriptorKey, Extra, Function, HandKey, Made, MadeForm, PrivateField, Treatment,
-};
+use pieces::codes::KeyKind;
+use rules::{Code, Descriptor, DescriptorKey, Extra, Function, Made, MadeForm, Name, PrivateField};
 use sheet::Parts;
 
-/// The code of the kind, and 5 more for a static member.
-fn code_of(parts: &Parts) -> u8
-    ensures { result ≡ code (seen_parts parts.now) }
-{
-    let kind = match parts.kind {
-        Kind::Field => 0,
-        Kind::Accessor => 1,
-        Kind::Method => 2,
-        Kind::Getter => 3,
-        Kind::Setter => 4,
-        Kind::Constructor => 5,
-        Kind::Other => 6,
-    };
-    if parts.flags.is_static {
-        kind + 5
-    } else {
-        kind
-    }
-}
-
-fn key_of(key: HandKey, parts: &Parts) -> DescriptorKey
+fn key_of(key: Option<Name>, parts: &Parts) -> DescriptorKey
     ensures { result ≡ descriptor_key key (seen_parts parts.now) }
 {
     match key {
-        HandKey::Computed(name) => DescriptorKey::Assigned(name),
-        HandKey::Written => match parts.key.kind {
+        Some(name) => DescriptorKey::Assigned(name),
+        None => match parts.key.kind {
             KeyKind::Identifier => DescriptorKey::Quoted(parts.key.text),
             _ => DescriptorKey::Written(parts.key.text),
         },
@@ -47,34 +26,33 @@ fn key_of(key: HandKey, parts: &Parts) -> DescriptorKey
 }
 
 /// What follows the key in the descriptor of a private member.
-fn extra_of(form: MadeForm, parts: &Parts) -> Extra
+fn extra_of(form: MadeForm, parts: &Parts) -> Option<Extra>
     ensures { more_of result ≡ more_for form (seen_parts parts.now) }
 {
     match form {
         MadeForm::Initialized {
-            initializer: _,
             parameter: Some(parameter),
-        } => Extra::Access {
+            ..
+        } => Some(Extra::Access {
             field: PrivateField::Written(parts.key.text),
             parameter,
-        },
+        }),
         MadeForm::StoredDecorated {
             storage,
-            initializer: _,
-            starts: _,
             parameter,
             access: Some(_),
-        } => Extra::Access {
+            ..
+        } => Some(Extra::Access {
             field: PrivateField::Stored(storage),
             parameter,
-        },
-        MadeForm::Called { name: _ } => Extra::Function(Function {
+        }),
+        MadeForm::Called { .. } => Some(Extra::Function(Function {
             is_async: parts.flags.is_async,
             is_generator: parts.flags.is_generator,
             parameters: parts.parameters,
             body: text_of(parts.body),
-        }),
-        _ => Extra::Nothing,
+        })),
+        _ => None,
     }
 }
 
@@ -85,50 +63,33 @@ fn describe_one(made: &Made) -> Descriptor
     let parts = made.held.member.parts();
     Descriptor {
         decorators: made.decorators,
-        code: code_of(parts),
+        code: Code {
+            kind: parts.kind,
+            is_static: parts.flags.is_static,
+        },
         key: key_of(made.held.key, parts),
         extra: extra_of(made.form, parts),
     }
 }
 
-/// Whether the member is decorated and belongs to this half and, of that, to the non-fields or to the fields.
-pub(crate) fn is_in_group(is_static: bool, non_field: bool, parts: &Parts) -> bool
-    ensures { result ≡ in_group is_static non_field (seen_parts parts.now) }
-{
-    let wanted = match treatment_of(parts) {
-        Treatment::Untouched | Treatment::Stored => false,
-        Treatment::DecoratedField(_) => !non_field,
-        Treatment::DecoratedAccessor(_) | Treatment::DecoratedElement(_) => non_field,
-    };
-    wanted && is_static == parts.flags.is_static
-}
-
 /// Appends the descriptors of one group, in written order.
-fn describe_group(
-    members: &[Made],
-    is_static: bool,
-    non_field: bool,
-    descriptors: &mut Table<Descriptor, 64>,
-)
-    requires { length (rows_of descriptors.old) + length (filter (λ i. in_group is_static non_field i.member) (map item_of members.now)) ≤ 64 }
-    ensures len { length (rows_of descriptors.new) ≡ length (rows_of descriptors.old) + length (filter (λ i. in_group is_static non_field i.member) (map item_of members.now)) }
-    ensures rows { map described_of (rows_of descriptors.new) ≡ map described_of (rows_of descriptors.old) ++ map describe (filter (λ i. in_group is_static non_field i.member) (map item_of members.now)) }
+fn describe_group(members: &Table<Made, 64>, group: Group, descriptors: &mut Table<Descriptor, 64>)
+    requires { length (rows_of descriptors.old) + length (filter (grouped group) (map item_of (rows_of members.now))) ≤ 64 }
+    ensures { map described_of (rows_of descriptors.new) ≡ map described_of (rows_of descriptors.old) ++ map describe (filter (grouped group) (map item_of (rows_of members.now))) }
 {
-    for made in members {
-        if is_in_group(is_static, non_field, made.held.member.parts()) {
+    for made in members.as_slice() {
+        if group.has(made) {
             descriptors.push(describe_one(made));
         }
     }
 }
 
-/// Fills the table of descriptors. Their order stands here, and nowhere else.
-pub(crate) fn describe_all(members: &[Made], descriptors: &mut Table<Descriptor, 64>)
-    requires few { length members.now ≤ 64 }
-    requires empty { rows_of descriptors.old ≡ [] }
-    ensures { map described_of (rows_of descriptors.new) ≡ map describe (in_order (λ i. i.member) (map item_of members.now)) }
+/// Fills the table with the descriptors of the members.
+pub(crate) fn describe_all(members: &Table<Made, 64>, descriptors: &mut Table<Descriptor, 64>)
+    ensures { map described_of (rows_of descriptors.new) ≡ map describe (in_order (λ i. i.member) (map item_of (rows_of members.now))) }
 {
-    describe_group(members, true, true, descriptors);
-    describe_group(members, true, false, descriptors);
-    describe_group(members, false, true, descriptors);
-    describe_group(members, false, false, descriptors);
+    descriptors.clear();
+    for group in GROUPS {
+        describe_group(members, group, descriptors);
+    }
 }

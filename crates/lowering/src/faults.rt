@@ -18,12 +18,11 @@ pub enum ClassFault {
     StorageNumber { member: usize },
 }
 
-impl ClassFault {
-    /// Number, layer and place.
-    pub fn numbered(self) -> Numbered
-        ensures { result ≡ class_refusal self }
-    {
-        let (number, place) = match self {
+impl From<ClassFault> for Numbered {
+    ghost from_gives = { λ fault told. told ≡ class_refusal fault };
+
+    fn from(fault: ClassFault) -> Numbered {
+        let (number, place) = match fault {
             ClassFault::Constructor { member } => (8, member),
             ClassFault::TooMany => (11, 64),
             ClassFault::StorageNumber { member } => (13, member),
@@ -36,6 +35,15 @@ impl ClassFault {
     }
 }
 
+impl ClassFault {
+    /// Number, layer and place.
+    pub fn numbered(self) -> Numbered
+        ensures { result ≡ class_refusal self }
+    {
+        Numbered::from(self)
+    }
+}
+
 /// Why a class is not lowered: by its members, or for want of marks.
 #[derive(Clone, Copy)]
 pub enum LowerFault {
@@ -44,18 +52,29 @@ pub enum LowerFault {
 }
 
 impl From<ClassFault> for LowerFault {
-    ghost from_gives = { λ f r. r ≡ Members f };
+    ghost from_gives = { λ fault lower. lower ≡ Members fault };
 
-    fn from(f: ClassFault) -> LowerFault {
-        LowerFault::Members(f)
+    fn from(fault: ClassFault) -> LowerFault {
+        LowerFault::Members(fault)
     }
 }
 
 impl From<Exhausted> for LowerFault {
-    ghost from_gives = { λ f r. r ≡ Marks f };
+    ghost from_gives = { λ fault lower. lower ≡ Marks fault };
 
-    fn from(f: Exhausted) -> LowerFault {
-        LowerFault::Marks(f)
+    fn from(fault: Exhausted) -> LowerFault {
+        LowerFault::Marks(fault)
+    }
+}
+
+impl From<LowerFault> for Numbered {
+    ghost from_gives = { λ fault told. told ≡ lower_refusal fault };
+
+    fn from(fault: LowerFault) -> Numbered {
+        match fault {
+            LowerFault::Members(fault) => Numbered::from(fault),
+            LowerFault::Marks(fault) => fault.numbered(),
+        }
     }
 }
 
@@ -64,9 +83,6 @@ impl LowerFault {
     pub fn numbered(self) -> Numbered
         ensures { result ≡ lower_refusal self }
     {
-        match self {
-            LowerFault::Members(fault) => fault.numbered(),
-            LowerFault::Marks(fault) => fault.numbered(),
-        }
+        Numbered::from(self)
     }
 }

@@ -8,6 +8,7 @@ mod describing;
 mod draws;
 mod examples;
 mod faults;
+mod groups;
 mod making;
 mod members;
 mod naming;

@@ -13,10 +13,7 @@ use sheet::Parts;
 pub(crate) fn is_decorated(parts: &Parts) -> bool
     ensures { result ≡ non_empty (seen_parts parts.now).decorators }
 {
-    match parts.decorators.as_slice() {
-        [] => false,
-        _ => true,
-    }
+    !parts.decorators.as_slice().is_empty()
 }
 
 /// What the walks do with the member.
@@ -52,10 +49,7 @@ pub(crate) fn is_constructor(parts: &Parts) -> bool
 pub(crate) fn is_built(parts: &Parts) -> bool
     ensures { result ≡ built (seen_parts parts.now) }
 {
-    match parts.kind {
-        Kind::Constructor => parts.body.is_some(),
-        _ => false,
-    }
+    is_constructor(parts) && parts.body.is_some()
 }
 
 /// Whether walk 1 takes the member.

@@ -1,14 +1,16 @@
 //! The names in the order of the results, and the variables.
-ghost use Rattle.std.specs.Prelude.{◌≡◌, ◌+◌, ◌≤◌, [], ◌++◌, map, length, Option};
+ghost use Rattle.std.specs.Prelude.{◌≡◌, ◌+◌, ◌≤◌, ◌++◌, map, length, filter};
 ghost use Rattle.std.specs.List.{flat_map};
-ghost use Rattle.rules.specs.Records.{access_names, second_names, third_names, item_names, list_of, in_order, starter_of};
+ghost use Rattle.std.specs.Option.{option_to_list};
+ghost use Rattle.rules.specs.Records.{second_names, third_names, item_names, in_order, starter_of};
 ghost use Rattle.rules.specs.Walks.{item_of};
-ghost use Rattle.lowering.specs.Picks.{picked};
+ghost use Rattle.lowering.specs.Picks.{wanted};
 ghost use Rattle.lowering.specs.Rows.{rows_of};
 
-use crate::describing::is_in_group;
+use crate::groups::{GROUPS, Group};
 use crate::tables::Table;
-use rules::{Access, Assignment, Frame, Made, MadeForm, Name};
+use crate::taking::MOST_ASSIGNMENTS;
+use rules::{Assignment, Frame, Made, MadeForm, Name};
 
 /// Of each member at most three names stand for results, and there are two starters.
 pub(crate) const MOST_NAMES: usize = 194;
@@ -16,87 +18,60 @@ pub(crate) const MOST_NAMES: usize = 194;
 /// The names of assignments, and those of results.
 pub(crate) const MOST_VARIABLES: usize = 770;
 
-/// Which names of a member are wanted.
+/// Which members' names are wanted. It is an enum, since the cases are few and closed: a trait would say the same in more lines, and
+/// of a closure each call's contract would have to say which test it computes.
 #[derive(Clone, Copy)]
 pub(crate) enum Pick {
-    /// All, of the members of a group: by half, and whether non-fields.
-    Group(bool, bool),
-    /// Those that walk 2 drew.
+    /// Those of a group.
+    Group(Group),
+    /// Those whose names walk 2 drew.
     Second,
-    /// Those that walk 3 drew.
+    /// Those whose names walk 3 drew.
     Third,
 }
 
-/// Appends the names that a private accessor's getter and setter use.
-fn put_access<const N: usize>(access: Option<Access>, names: &mut Table<Name, N>)
-    requires { length (rows_of names.old) + length (access_names access) ≤ N }
-    ensures { rows_of names.new ≡ rows_of names.old ++ access_names access }
-{
-    if let Some(access) = access {
-        names.push(access.getting);
-        names.push(access.setting);
+impl Pick {
+    fn wants(self, made: &Made) -> bool
+        ensures { result ≡ wanted self (item_of made.now) }
+    {
+        let is_third = matches!(made.form, MadeForm::Initialized { .. });
+        match self {
+            Pick::Group(group) => group.has(made),
+            Pick::Second => !is_third,
+            Pick::Third => is_third,
+        }
     }
 }
 
-/// Appends the names that walk 2 drew for a form, without starter and parameters.
-fn put_second<const N: usize>(form: MadeForm, names: &mut Table<Name, N>)
-    requires { length (rows_of names.old) + length (second_names form) ≤ N }
-    ensures { rows_of names.new ≡ rows_of names.old ++ second_names form }
+/// The names that a form uses for results: in a value, in a getter and a setter, in a made body.
+fn names_of(form: MadeForm) -> [Option<Name>; 3]
+    ensures { flat_map option_to_list result ≡ second_names form ++ third_names form }
 {
     match form {
+        MadeForm::AsWritten | MadeForm::Stored { .. } => [None; 3],
+        MadeForm::Initialized { initializer, .. } => [Some(initializer.name), None, None],
         MadeForm::StoredDecorated {
-            storage: _,
             initializer,
-            starts: _,
-            parameter: _,
             access,
-        } => {
-            names.push(initializer.name);
-            put_access(access, names);
-        }
-        MadeForm::Called { name } => names.push(name),
-        _ => {}
-    }
-}
-
-/// Appends the name that walk 3 drew for a form, without parameter.
-fn put_third<const N: usize>(form: MadeForm, names: &mut Table<Name, N>)
-    requires { length (rows_of names.old) + length (third_names form) ≤ N }
-    ensures { rows_of names.new ≡ rows_of names.old ++ third_names form }
-{
-    if let MadeForm::Initialized {
-        initializer,
-        parameter: _,
-    } = form
-    {
-        names.push(initializer.name);
-    }
-}
-
-/// Appends the names of a member that are wanted.
-fn put_names<const N: usize>(pick: Pick, made: &Made, names: &mut Table<Name, N>)
-    requires { length (rows_of names.old) + length (picked pick (item_of made.now)) ≤ N }
-    ensures { rows_of names.new ≡ rows_of names.old ++ picked pick (item_of made.now) }
-{
-    match pick {
-        Pick::Group(is_static, non_field) => {
-            if is_in_group(is_static, non_field, made.held.member.parts()) {
-                put_second(made.form, names);
-                put_third(made.form, names);
-            }
-        }
-        Pick::Second => put_second(made.form, names),
-        Pick::Third => put_third(made.form, names),
+            ..
+        } => [
+            Some(initializer.name),
+            access.map(|access| access.getting),
+            access.map(|access| access.setting),
+        ],
+        MadeForm::Called { name } => [Some(name), None, None],
     }
 }
 
 /// Appends the names of all members that are wanted, in written order.
-fn put_all<const N: usize>(pick: Pick, members: &[Made], names: &mut Table<Name, N>)
-    requires { length (rows_of names.old) + length (flat_map (picked pick) (map item_of members.now)) ≤ N }
-    ensures { rows_of names.new ≡ rows_of names.old ++ flat_map (picked pick) (map item_of members.now) }
+fn put_all<const N: usize>(pick: Pick, members: &Table<Made, 64>, names: &mut Table<Name, N>)
+    requires { length (rows_of names.old) + length (flat_map item_names (filter (wanted pick) (map item_of (rows_of members.now)))) ≤ N }
+    ensures { rows_of names.new ≡ rows_of names.old ++ flat_map item_names (filter (wanted pick) (map item_of (rows_of members.now))) }
 {
-    for made in members {
-        put_names(pick, made, names);
+    for made in members.as_slice() {
+        if pick.wants(made) {
+            names.push_present(&names_of(made.form));
+        }
     }
 }
 
@@ -110,74 +85,41 @@ fn put_assigned<const N: usize>(assignments: &[Assignment], names: &mut Table<Na
     }
 }
 
-/// Appends a starter, if there is one.
-fn put_starter<const N: usize>(starter: Option<Name>, names: &mut Table<Name, N>)
-    requires { length (rows_of names.old) + length (list_of starter) ≤ N }
-    ensures { rows_of names.new ≡ rows_of names.old ++ list_of starter }
+/// Fills the table with the names of all descriptors' results, in the order of the descriptors, and the starters.
+pub(crate) fn name_all(members: &Table<Made, 64>, frame: Frame, names: &mut Table<Name, MOST_NAMES>)
+    ensures { rows_of names.new ≡ flat_map item_names (in_order (λ i. i.member) (map item_of (rows_of members.now))) ++ (option_to_list frame.instance_starter ++ option_to_list frame.static_starter) }
 {
-    if let Some(name) = starter {
-        names.push(name);
+    names.clear();
+    for group in GROUPS {
+        put_all(Pick::Group(group), members, names);
     }
+    names.push_present(&[frame.instance_starter, frame.static_starter]);
 }
 
-/// Appends the names of all descriptors' results, in the order of the descriptors.
-fn put_groups(members: &[Made], names: &mut Table<Name, MOST_NAMES>)
-    requires few { length members.now ≤ 64 }
-    requires empty { rows_of names.old ≡ [] }
-    ensures rows { rows_of names.new ≡ flat_map item_names (in_order (λ i. i.member) (map item_of members.now)) }
-    ensures few { length (rows_of names.new) ≤ 192 }
-{
-    put_all(Pick::Group(true, true), members, names);
-    put_all(Pick::Group(true, false), members, names);
-    put_all(Pick::Group(false, true), members, names);
-    put_all(Pick::Group(false, false), members, names);
-}
-
-/// Appends the instance starter and then the static one, so far as they are there.
-fn put_starters<const N: usize>(frame: Frame, names: &mut Table<Name, N>)
-    requires { length (rows_of names.old) + 2 ≤ N }
-    ensures { rows_of names.new ≡ rows_of names.old ++ (list_of frame.instance_starter ++ list_of frame.static_starter) }
-{
-    put_starter(frame.instance_starter, names);
-    put_starter(frame.static_starter, names);
-}
-
-/// Fills the table of names: those of the descriptors' results, and the starters.
-pub(crate) fn name_all(members: &[Made], frame: Frame, names: &mut Table<Name, MOST_NAMES>)
-    requires few { length members.now ≤ 64 }
-    requires empty { rows_of names.old ≡ [] }
-    ensures { rows_of names.new ≡ flat_map item_names (in_order (λ i. i.member) (map item_of members.now)) ++ (list_of frame.instance_starter ++ list_of frame.static_starter) }
-{
-    put_groups(members, names);
-    put_starters(frame, names);
-}
-
-/// Fills the table of variables: the names that are no parameters, as they were drawn, and the starters.
+/// Fills the table with the variables: the names that are no parameters, as they were drawn, and the starters.
 pub(crate) fn declare_all(
-    assignments: &[Assignment],
-    members: &[Made],
+    assignments: &Table<Assignment, MOST_ASSIGNMENTS>,
+    members: &Table<Made, 64>,
     frame: Frame,
     variables: &mut Table<Name, MOST_VARIABLES>,
 )
-    requires few { length members.now ≤ 64 }
-    requires short { length assignments.now ≤ 576 }
-    requires empty { rows_of variables.old ≡ [] }
-    ensures { rows_of variables.new ≡ map (λ a. a.name) assignments.now ++ (flat_map (λ i. second_names i.form) (map item_of members.now) ++ (flat_map (λ i. third_names i.form) (map item_of members.now) ++ (list_of frame.instance_starter ++ list_of frame.static_starter))) }
+    ensures { rows_of variables.new ≡ map (λ a. a.name) (rows_of assignments.now) ++ (flat_map (λ i. second_names i.form) (map item_of (rows_of members.now)) ++ (flat_map (λ i. third_names i.form) (map item_of (rows_of members.now)) ++ (option_to_list frame.instance_starter ++ option_to_list frame.static_starter))) }
 {
-    put_assigned(assignments, variables);
+    variables.clear();
+    put_assigned(assignments.as_slice(), variables);
     put_all(Pick::Second, members, variables);
     put_all(Pick::Third, members, variables);
-    put_starters(frame, variables);
+    variables.push_present(&[frame.instance_starter, frame.static_starter]);
 }
 
 /// The starter of a half: it is drawn with the first decorated non-field of that half.
-pub(crate) fn starter_of(is_static: bool, members: &[Made]) -> Option<Name>
-    ensures { result ≡ starter_of is_static (map item_of members.now) }
+pub(crate) fn starter_of(is_static: bool, members: &Table<Made, 64>) -> Option<Name>
+    ensures { result ≡ starter_of is_static (map item_of (rows_of members.now)) }
 {
-    for made in members {
-        if is_in_group(is_static, true, made.held.member.parts()) {
-            return made.starter;
-        }
-    }
-    None
+    let starting = Group {
+        is_static,
+        non_field: true,
+    };
+    let first = members.as_slice().iter().find(|made| starting.has(made))?;
+    first.starter
 }

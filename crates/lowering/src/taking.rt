@@ -4,7 +4,6 @@ ghost use Rattle.lists.specs.Listed.{listed};
 ghost use Rattle.sheet.specs.Seen.{seen_parts};
 ghost use Rattle.rules.specs.Members.{taken, replaced};
 ghost use Rattle.rules.specs.Walks.{applied, merged, decorations, decorator_assignments, key_name, hand_key, key_assignments, member_assignments, first_item, item_of};
-ghost use Rattle.rules.specs.declared.forming.HandKey.TheVariants.{Written};
 ghost use Rattle.lowering.specs.Hands.{seen_held};
 ghost use Rattle.lowering.specs.Rows.{rows_of};
 
@@ -16,7 +15,7 @@ use formats::Place;
 use lists::Bounded;
 use pieces::fields::MOST_DECORATORS;
 use pieces::parts::Decorator;
-use rules::{Assignment, Decoration, Decorators, HandKey, Held, Made, MadeForm, Stem};
+use rules::{Assignment, Decoration, Decorators, Held, Made, MadeForm, Stem};
 use sheet::Parts;
 
 /// A member is assigned at most 9 texts: those of 8 decorators and of its key.
@@ -80,7 +79,7 @@ fn take_key(
     assignments: &mut Table<Assignment, MOST_ASSIGNMENTS>,
 )
     requires at { at ≤ 1900 }
-    requires written { slot.old.key ≡ Written }
+    requires written { slot.old.key ≡ None }
     requires room { length (rows_of assignments.old) < 576 }
     ensures member { slot.new.member ≡ slot.old.member }
     ensures key { slot.new.key ≡ hand_key marks.now at (seen_held slot.old) }
@@ -94,7 +93,7 @@ fn take_key(
         assignments.push(Assignment { name, text });
         *slot = Held {
             member,
-            key: HandKey::Computed(name),
+            key: Some(name),
         };
     }
 }
@@ -107,7 +106,7 @@ pub(crate) fn take_first(
     assignments: &mut Table<Assignment, MOST_ASSIGNMENTS>,
 ) -> Made
     requires at { at ≤ 1000 }
-    requires written { slot.old.key ≡ Written }
+    requires written { slot.old.key ≡ None }
     requires room { length (rows_of assignments.old) + 9 ≤ 576 }
     ensures item { item_of result ≡ first_item marks.now at (seen_held slot.old) }
     ensures held { slot.new ≡ result.held }

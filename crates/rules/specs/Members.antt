@@ -1,5 +1,5 @@
 -- What the rules ask of a member.
-use Rattle.std.specs.Prelude.{ℕ, Bool, true, false, cond, not, ◌&&◌, ◌||◌, List, [], ◌∷◌, is_some, Some, None, Option}
+use Rattle.std.specs.Prelude.{Bool, true, false, cond, not, ◌&&◌, ◌||◌, List, [], ◌∷◌, is_some, Some, None, Option}
 use Rattle.formats.specs.declared.Place.{Place}
 use Rattle.pieces.specs.declared.codes.Kind.{Kind}
 use Rattle.pieces.specs.declared.codes.Kind.TheVariants.{Field, Accessor, Method, Getter, Setter, Constructor, Other}
@@ -143,13 +143,3 @@ abbrev pub text_of : Option Body → Option Place
 text_of None = None
 text_of (Some (Text p)) = Some p
 text_of (Some (Halves head tail)) = None
-
--- the number of a kind, and 5 more for a static member
-abbrev pub kind_code : Kind → ℕ
-kind_code Field = 0
-kind_code Accessor = 1
-kind_code Method = 2
-kind_code Getter = 3
-kind_code Setter = 4
-kind_code Constructor = 5
-kind_code Other = 6

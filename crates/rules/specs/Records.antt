@@ -1,8 +1,10 @@
 -- The record of a lowered class.
 use Rattle.std.specs.Prelude.{ℕ, ◌+◌, Bool, true, false, cond, List, [], ◌∷◌, ◌++◌, map, is_some, Some, None, filter, Option}
 use Rattle.std.specs.List.{flat_map}
+use Rattle.std.specs.Option.{option_to_list}
 use Rattle.formats.specs.declared.Place.{Place}
 use Rattle.lists.specs.Listed.{listed}
+use Rattle.pieces.specs.Codes.{kind_code}
 use Rattle.pieces.specs.declared.codes.KeyKind.{KeyKind}
 use Rattle.pieces.specs.declared.codes.KeyKind.TheVariants as kinds
 use Rattle.pieces.specs.declared.parts.Parameter.{Parameter}
@@ -10,6 +12,7 @@ use Rattle.sheet.specs.Seen.{Seen}
 use Rattle.rules.specs.declared.naming.Stem.TheVariants.{Args}
 use Rattle.rules.specs.declared.naming.Name.{Name}
 use Rattle.rules.specs.declared.describing.Assignment.{Assignment}
+use Rattle.rules.specs.declared.describing.Code.{Code}
 use Rattle.rules.specs.declared.describing.Descriptor.{Descriptor}
 use Rattle.rules.specs.declared.describing.DescriptorKey.{DescriptorKey}
 use Rattle.rules.specs.declared.describing.DescriptorKey.TheVariants.{Quoted, Written, Assigned}
@@ -18,8 +21,6 @@ use Rattle.rules.specs.declared.describing.Extra.TheVariants as extras
 use Rattle.rules.specs.declared.describing.Function.{Function}
 use Rattle.rules.specs.declared.describing.PrivateField.{PrivateField}
 use Rattle.rules.specs.declared.describing.PrivateField.TheVariants as fields
-use Rattle.rules.specs.declared.forming.HandKey.{HandKey}
-use Rattle.rules.specs.declared.forming.HandKey.TheVariants as keys
 use Rattle.rules.specs.declared.forming.Access.{Access}
 use Rattle.rules.specs.declared.forming.Storage.{Storage}
 use Rattle.rules.specs.declared.forming.MadeForm.{MadeForm}
@@ -27,7 +28,7 @@ use Rattle.rules.specs.declared.forming.MadeForm.TheVariants.{AsWritten, Initial
 use Rattle.rules.specs.declared.forming.Constructor.{Constructor}
 use Rattle.rules.specs.declared.forming.Constructor.TheVariants as constructors
 use Rattle.rules.specs.declared.forming.Frame.{Frame}
-use Rattle.rules.specs.Members.{non_empty, starts, field_in, of_constructor, text_of, kind_code}
+use Rattle.rules.specs.Members.{non_empty, starts, field_in, of_constructor, text_of}
 use Rattle.rules.specs.Draws.{named, no_starters, constructor_calls, second_from, third_from, args_at}
 use Rattle.rules.specs.Walks.{Applied, applied, Item, some_if, first_walk, second_walk, third_walk, assignments_from}
 
@@ -52,16 +53,20 @@ pub record Described : Type 0 where
 abbrev pub body_of : Function → Body
 body_of f = record { async = f.is_async; generator = f.is_generator; parameters = listed f.parameters; text = f.body }
 
-abbrev pub more_of : Extra → More
-more_of extras.Nothing = nothing
-more_of (extras.Function f) = function (body_of f)
-more_of (extras.Access field parameter) = reaches field parameter
+abbrev pub more_of : Option Extra → More
+more_of None = nothing
+more_of (Some (extras.Function f)) = function (body_of f)
+more_of (Some (extras.Access field parameter)) = reaches field parameter
+
+-- the number of the kind, and 5 more for a static member
+abbrev pub code_number : Code → ℕ
+code_number c = kind_code c.kind + cond c.is_static 5 0
 
 abbrev pub described_of : Descriptor → Described
-described_of d = record { decorators = applied d.decorators; code = d.code; key = d.key; more = more_of d.extra }
+described_of d = record { decorators = applied d.decorators; code = code_number d.code; key = d.key; more = more_of d.extra }
 
 abbrev pub code : Seen → ℕ
-code m = kind_code m.kind + cond m.flags.is_static 5 0
+code m = code_number (record { kind = m.kind; is_static = m.flags.is_static })
 
 -- a string for an identifier, else what stands in the brackets
 abbrev pub written_key : KeyKind → Place → DescriptorKey
@@ -70,9 +75,10 @@ written_key kinds.Literal t = Written t
 written_key kinds.ComputedIdentifier t = Written t
 written_key kinds.Computed t = Written t
 
-abbrev pub descriptor_key : HandKey → Seen → DescriptorKey
-descriptor_key keys.Written m = written_key m.key.kind m.key.text
-descriptor_key (keys.Computed name) m = Assigned name
+-- the name of the computed identifier that replaces the member's key, or else the key as the member has it
+abbrev pub descriptor_key : Option Name → Seen → DescriptorKey
+descriptor_key None m = written_key m.key.kind m.key.text
+descriptor_key (Some name) m = Assigned name
 
 abbrev pub old_function : Seen → Body
 old_function m = record {
@@ -124,10 +130,6 @@ in_order f xs =
     ++ (filter (λ x. in_group false true (f x)) xs
     ++ filter (λ x. in_group false false (f x)) xs))
 
-abbrev pub list_of : {X : Type 0} → Option X → List X
-list_of None = []
-list_of (Some x) = x ∷ []
-
 -- the starter of a half is drawn with its first decorated non-field
 abbrev pub starter_of : Bool → List Item → Option Name
 starter_of half [] = None
@@ -176,7 +178,7 @@ third_names (StoredDecorated storage init starts parameter access) = []
 third_names (Called name) = []
 
 abbrev pub starter_names : List Item → List Name
-starter_names is = list_of (starter_of false is) ++ list_of (starter_of true is)
+starter_names is = option_to_list (starter_of false is) ++ option_to_list (starter_of true is)
 
 -- The names that a made form uses, in the order of the results: in a value, in a getter and a setter, in a made body.
 abbrev pub item_names : Item → List Name

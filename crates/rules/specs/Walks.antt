@@ -14,8 +14,6 @@ use Rattle.rules.specs.declared.describing.Decoration.{Decoration}
 use Rattle.rules.specs.declared.describing.Decoration.TheVariants.{Written, Assigned}
 use Rattle.rules.specs.declared.describing.Decorators.{Decorators}
 use Rattle.rules.specs.declared.describing.Decorators.TheVariants as several
-use Rattle.rules.specs.declared.forming.HandKey.{HandKey}
-use Rattle.rules.specs.declared.forming.HandKey.TheVariants as keys
 use Rattle.rules.specs.declared.forming.Initializer.{Initializer}
 use Rattle.rules.specs.declared.forming.StorageStem.{StorageStem}
 use Rattle.rules.specs.declared.forming.StorageStem.TheVariants.{Private, Public, ComputedKey as ReplacedKey}
@@ -47,7 +45,7 @@ merged (d ∷ e ∷ rest) = array d (e ∷ rest)
 -- a member with what is made of it
 pub record Item : Type 0 where
   pub member : Seen
-  pub key : HandKey
+  pub key : Option Name
   pub decorators : Applied
   pub form : MadeForm
   pub starter : Option Name
@@ -81,8 +79,9 @@ decorator_assignments walked (d ∷ ds) marks k =
 abbrev pub key_name : List ℕ → ℕ → Seen → Name
 key_name marks k m = named ComputedKey marks (k + expressions m)
 
-abbrev pub hand_key : List ℕ → ℕ → Seen → HandKey
-hand_key marks k m = cond (replaced m) (keys.Computed (key_name marks k m)) keys.Written
+-- the computed identifier that replaces the key, if it is taken out
+abbrev pub hand_key : List ℕ → ℕ → Seen → Option Name
+hand_key marks k m = some_if (replaced m) (key_name marks k m)
 
 abbrev pub key_assignments : List ℕ → ℕ → Seen → List Assignment
 key_assignments marks k m = cond (replaced m) (record { name = key_name marks k m; text = m.key.text } ∷ []) []

@@ -1,8 +1,12 @@
 //! What the helper is told, and what is assigned ahead of the class.
+ghost use Rattle.std.specs.Prelude.{◌≡◌};
+ghost use Rattle.rules.specs.Records.{code_number};
+
 use crate::forming::Storage;
 use crate::naming::Name;
 use formats::Place;
 use lists::Bounded;
+use pieces::codes::Kind;
 use pieces::fields::{MOST_DECORATORS, MOST_PARAMETERS};
 use pieces::parts::Parameter;
 
@@ -23,7 +27,8 @@ pub enum Decoration {
 /// The decorators of a member as its descriptor has them, in written order.
 #[derive(Clone, Copy)]
 pub enum Decorators {
-    /// Of a member that is not decorated; no descriptor has it.
+    /// Of a member that is not decorated; no descriptor has it. An Option of the other two would not say more, and would ask for
+    /// an invariant wherever a descriptor is made.
     Nothing,
     /// One stands bare.
     Bare(Decoration),
@@ -66,7 +71,6 @@ pub enum PrivateField {
 /// What follows the key in the descriptor of a private member.
 #[derive(Clone, Copy)]
 pub enum Extra {
-    Nothing,
     Function(Function),
     /// A getter and a setter of a field; the setter has this parameter.
     Access {
@@ -75,12 +79,37 @@ pub enum Extra {
     },
 }
 
+/// The code of a decorated member: its kind, and whether it is static.
+#[derive(Clone, Copy)]
+pub struct Code {
+    pub kind: Kind,
+    pub is_static: bool,
+}
+
+/// The number that the helper is told: that of the kind, and 5 more if static.
+impl From<Code> for u8 {
+    ghost from_gives = { λ code number. number ≡ code_number code };
+
+    fn from(code: Code) -> u8 {
+        let kind = match code.kind {
+            Kind::Field => 0,
+            Kind::Accessor => 1,
+            Kind::Method => 2,
+            Kind::Getter => 3,
+            Kind::Setter => 4,
+            Kind::Constructor => 5,
+            Kind::Other => 6,
+        };
+        if code.is_static { kind + 5 } else { kind }
+    }
+}
+
 /// What the helper is told of one decorated member.
 #[derive(Clone, Copy)]
 pub struct Descriptor {
     pub decorators: Decorators,
-    /// The code of the kind, and 5 more if static.
-    pub code: u8,
+    pub code: Code,
     pub key: DescriptorKey,
-    pub extra: Extra,
+    /// Of a private member alone.
+    pub extra: Option<Extra>,
 }

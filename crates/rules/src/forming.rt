@@ -4,20 +4,12 @@ use crate::naming::Name;
 use formats::Place;
 use sheet::Member;
 
-/// The key of a member in hand.
-#[derive(Clone, Copy)]
-pub enum HandKey {
-    /// As the member has it.
-    Written,
-    /// The computed identifier that replaces it.
-    Computed(Name),
-}
-
 /// A member in hand.
 #[derive(Clone, Copy)]
 pub struct Held {
     pub member: Member,
-    pub key: HandKey,
+    /// The computed identifier that replaces the member's key; without one the key is as the member has it.
+    pub key: Option<Name>,
 }
 
 /// The call of an initializer: with `this`, and with the value where there is one.

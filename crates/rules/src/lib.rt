@@ -10,10 +10,11 @@ mod naming;
 mod treating;
 
 pub use describing::{
-    Assignment, Decoration, Decorators, Descriptor, DescriptorKey, Extra, Function, PrivateField,
+    Assignment, Code, Decoration, Decorators, Descriptor, DescriptorKey, Extra, Function,
+    PrivateField,
 };
 pub use forming::{
-    Access, Constructor, Frame, HandKey, Held, Initializer, Made, MadeForm, Storage, StorageStem,
+    Access, Constructor, Frame, Held, Initializer, Made, MadeForm, Storage, StorageStem,
 };
 pub use naming::{Name, Stem};
 pub use treating::{Starters, Treatment};

@@ -1,6 +1,6 @@
 //! How a record is filled.
 ghost use Rattle.std.specs.Prelude.{◌≡◌, ◌+◌, ◌≤◌, true, [], map, length, IfOk, count_by};
-ghost use Rattle.rules.specs.Members.{non_empty, accessor};
+ghost use Rattle.rules.specs.Members.{accessor};
 ghost use Rattle.rules.specs.Records.{assembled, lowered, empty_record, empty_frame};
 ghost use Rattle.rules.specs.Walks.{item_of};
 ghost use Rattle.lowering.specs.Hands.{seen_hand, all_written};
@@ -15,7 +15,7 @@ use crate::draws::Plan;
 use crate::naming::{declare_all, name_all, starter_of};
 use crate::tables::Table;
 use crate::walks::{walk_first, walk_second, walk_third};
-use rules::{Constructor, Descriptor, Frame, Held};
+use rules::{Constructor, Frame, Held};
 use std::alloc::{AllocError, Global};
 
 const EMPTY_FRAME: Frame = Frame {
@@ -24,15 +24,6 @@ const EMPTY_FRAME: Frame = Frame {
     block: false,
     constructor: Constructor::AsWritten,
 };
-
-fn has_rows(descriptors: &[Descriptor]) -> bool
-    ensures { result ≡ non_empty descriptors.now }
-{
-    match descriptors {
-        [] => false,
-        _ => true,
-    }
-}
 
 impl Record {
     /// An empty record with room for every class.
@@ -62,26 +53,17 @@ impl Record {
 
     /// The binding: descriptors, names and variables are put together from the members and what was made of them.
     fn assemble(&mut self, constructor: Constructor)
-        requires descriptors { rows_of self.old.descriptors ≡ [] }
-        requires names { rows_of self.old.names ≡ [] }
-        requires variables { rows_of self.old.variables ≡ [] }
         ensures { record_of self.new ≡ assembled (rows_of self.old.assignments) (map item_of (rows_of self.old.members)) constructor }
     {
-        let members = self.members.as_slice();
-        describe_all(members, &mut self.descriptors);
+        describe_all(&self.members, &mut self.descriptors);
         let frame = Frame {
-            instance_starter: starter_of(false, members),
-            static_starter: starter_of(true, members),
-            block: has_rows(self.descriptors.as_slice()),
+            instance_starter: starter_of(false, &self.members),
+            static_starter: starter_of(true, &self.members),
+            block: !self.descriptors.as_slice().is_empty(),
             constructor,
         };
-        name_all(members, frame, &mut self.names);
-        declare_all(
-            self.assignments.as_slice(),
-            members,
-            frame,
-            &mut self.variables,
-        );
+        name_all(&self.members, frame, &mut self.names);
+        declare_all(&self.assignments, &self.members, frame, &mut self.variables);
         self.frame = frame;
     }
 

@@ -12,7 +12,7 @@ use crate::records::Record;
 use crate::supply::supply;
 use crate::tables::Table;
 use marks::Marks;
-use rules::{HandKey, Held};
+use rules::Held;
 use sheet::Member;
 use std::alloc::{AllocError, Global};
 
@@ -44,8 +44,7 @@ impl<S> Run<S> {
         if self.hand.as_slice().len() >= 64 {
             return Err(ClassFault::TooMany);
         }
-        let key = HandKey::Written;
-        self.hand.push(Held { member, key });
+        self.hand.push(Held { member, key: None });
         Ok(())
     }
 }

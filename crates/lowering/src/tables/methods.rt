@@ -1,5 +1,7 @@
 //! What can be done with a table.
-ghost use Rattle.std.specs.Prelude.{◌≡◌, ◌<◌, [], ◌∷◌, ◌++◌, length, IfOk};
+ghost use Rattle.std.specs.Prelude.{◌≡◌, ◌+◌, ◌<◌, ◌≤◌, [], ◌∷◌, ◌++◌, length, IfOk};
+ghost use Rattle.std.specs.List.{flat_map};
+ghost use Rattle.std.specs.Option.{option_to_list};
 ghost use Rattle.lowering.specs.Rows.{rows_of};
 
 use super::Table;
@@ -26,6 +28,20 @@ impl<T, const N: usize> Table<T, N> {
         ensures { result.now ≡ rows_of self.now }
     {
         self.rows.as_slice()
+    }
+}
+
+impl<T: Copy, const N: usize> Table<T, N> {
+    /// Appends the rows that are there.
+    pub(crate) fn push_present(&mut self, rows: &[Option<T>])
+        requires { length (rows_of self.old) + length (flat_map option_to_list rows.now) ≤ N }
+        ensures { rows_of self.new ≡ rows_of self.old ++ flat_map option_to_list rows.now }
+    {
+        for row in rows {
+            if let Some(row) = row {
+                self.push(*row);
+            }
+        }
     }
 }
 

@@ -1,4 +1,4 @@
-use Rattle.std.proofs.Common.{◌≡◌, ◌++◌, map, drop}
+use Rattle.std.proofs.Common.{◌≡◌, ◌++◌, map, take}
 use Rattle.rules.specs.declared.naming.Name.{Name}
 use Rattle.rules.specs.declared.describing.Assignment.{Assignment}
 use Rattle.lowering.specs.Rows.{rows_of}
@@ -7,4 +7,4 @@ use Rattle.lowering.proofs.naming.put_assigned.Given as goal
 abbrev pub invariant-loop-assignment : goal.invariant-loop-assignment
 invariant-loop-assignment g l =
     let name : Assignment → Name = λ a. a.name in
-    rows_of l.names ++ map name (drop l.assignment-index l.assignments) ≡ rows_of l.initial.names ++ map name l.assignments
+    rows_of l.names ≡ rows_of l.initial.names ++ map name (take l.assignment-index l.assignments)

@@ -1,6 +1,5 @@
 use Rattle.std.proofs.Common.{ap, arith}
 use Rattle.rules.specs.Walks.{item_of}
-use Rattle.rules.specs.Records.{described_of}
 use Rattle.lowering.specs.Hands.{seen_hand}
 use Rattle.lowering.specs.Rows.{rows_of}
 use Rattle.lowering.proofs.Walked.{accessors_walked}
@@ -22,11 +21,3 @@ walk_second-requires c =
 
 pub walk_third-requires : goal.walk_third-requires
 walk_third-requires c = omega (arith, c.requires.planned.few.1)
-
-pub assemble-requires : goal.assemble-requires
-assemble-requires c =
-    record {
-      descriptors = no_items described_of (rows_of c.args.self.now.descriptors) (ap (λ r. r.descriptors) c.requires.empty);
-      names = ap (λ r. r.names) c.requires.empty;
-      variables = ap (λ r. r.variables) c.requires.empty;
-    }

@@ -1,0 +1,12 @@
+use Rattle.std.proofs.Common.{◌≡◌, map, take}
+use Rattle.std.specs.List.{flat_map}
+use Rattle.rules.specs.Records.{described_of}
+use Rattle.rules.specs.Walks.{item_of}
+use Rattle.lowering.specs.Rows.{rows_of}
+use Rattle.lowering.proofs.Described.{descriptors_of}
+use Rattle.lowering.proofs.describing.describe_all.Given as goal
+
+-- the groups before this one are described
+abbrev pub invariant-loop-group : goal.invariant-loop-group
+invariant-loop-group l =
+    map described_of (rows_of l.descriptors) ≡ flat_map (descriptors_of (map item_of (rows_of l.members))) (take l.group-index l.group-items)
