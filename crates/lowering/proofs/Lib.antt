@@ -1,10 +1,11 @@
-pub mod Built
 pub mod Checking
 pub mod Counts
 pub mod Described
 pub mod Filled
+pub mod Handed
+pub mod Left
 pub mod Named
-pub mod Supplying
+pub mod Seconds
 pub mod Taken
 pub mod Turns
 pub mod Walked

@@ -10,6 +10,7 @@ mod examples;
 mod faults;
 mod making;
 mod members;
+mod names;
 mod naming;
 mod numbers;
 mod records;

@@ -64,9 +64,8 @@ impl<S: Marks> Run<S> {
         let hand = self.hand.as_slice();
         let supplied = supply(hand, derived, &mut self.source, &mut numbers, &mut marks);
         self.numbers = numbers;
-        let plan = supplied?;
-        let total = plan.total;
-        out.fill(&mut self.hand, before, derived, plan, &marks[0..total]);
+        let total = supplied?;
+        out.fill(&mut self.hand, before, derived, &marks[0..total]);
         self.hand.clear();
         Ok(())
     }
