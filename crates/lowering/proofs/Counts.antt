@@ -17,7 +17,8 @@ drawn_more : (w : ℕ) (stems : List Stem) (rest : List Drawing) → length (dra
 drawn_more w stems rest = simp (length-append, length-map)
 
 counted_names : (t : Tally) (w : ℕ) (ms : List Seen) →
-    (tallied t ms).names ≡ t.names + length (for_each first_stems w ms) + length (for_second_walk t.starters w ms) + length (for_each third_stems w ms)
+    (tallied t ms).names
+    ≡ t.names + length (for_each first_stems w ms) + length (for_second_walk t.starters w ms) + length (for_each third_stems w ms)
 counted_names t w [] = omega arith
 counted_names t w (m ∷ ms) =
     let s = t.starters in
@@ -45,7 +46,8 @@ called_over : (s : Starters) (ms : List Seen) → (starters_over s ms).called �
 called_over s [] = sym (or_false s.called)
 called_over s (m ∷ ms) = called_over (starters_after s m) ms ∙ or_assoc s.called (holds_call m) (any_of holds_call ms)
 
-pub calls_over : (ms : List Seen) → (starters_over no_starters ms).instance && not (starters_over no_starters ms).called ≡ constructor_calls ms
+pub calls_over : (ms : List Seen) →
+    (starters_over no_starters ms).instance && not (starters_over no_starters ms).called ≡ constructor_calls ms
 calls_over ms = rw (instance_over no_starters ms, called_over no_starters ms)
 
 counted_starters : (t : Tally) (ms : List Seen) → (tallied t ms).starters ≡ starters_over t.starters ms

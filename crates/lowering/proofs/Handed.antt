@@ -1,5 +1,5 @@
 -- How the marks of a class are handed out.
-use Rattle.std.proofs.Common.{◌≡◌, ℕ, ◌+◌, Bool, cond, List, length, drop, sym, ap, ◌∙◌}
+use Rattle.std.proofs.Common.{◌≡◌, ℕ, Bool, cond, List, drop, ap, ◌∙◌}
 use Rattle.sheet.specs.Seen.{Seen}
 use Rattle.rules.specs.declared.describing.Assignment.{Assignment}
 use Rattle.rules.specs.declared.forming.Constructor.{Constructor}
@@ -22,14 +22,15 @@ pub record Walked (ms : List Seen) (n : ℕ) (marks one two three : List ℕ) (f
   pub left_second : two ≡ after (for_second_walk no_starters 0 (members_of first)) one
   pub left_third : three ≡ after (for_each third_stems 0 (members_of second)) two
 
-module _ {ms : List Seen} {n : ℕ} {marks one two three : List ℕ} {first second third : List Item} (w : Walked ms n marks one two three first second third) where
-  pub first_same : members_of first ≡ ms
+module _ {ms : List Seen} {n : ℕ} {marks one two three : List ℕ} {first second third : List Item}
+    (w : Walked ms n marks one two three first second third) where
+  first_same : members_of first ≡ ms
   first_same = ap members_of w.made_first ∙ first_members marks 0 ms
 
   second_same : members_of second ≡ ms
   second_same = ap members_of w.made_second ∙ (second_members no_starters n one 0 first ∙ first_same)
 
-  pub third_same : members_of third ≡ ms
+  third_same : members_of third ≡ ms
   third_same = ap members_of w.made_third ∙ (third_members two 0 second ∙ second_same)
 
   one_is : one ≡ drop (second_from ms) marks
@@ -40,7 +41,8 @@ module _ {ms : List Seen} {n : ℕ} {marks one two three : List ℕ} {first seco
       (w.left_second ∙ ap (λ zs. after (for_second_walk no_starters 0 zs) one) first_same)
 
   three_is : three ≡ drop (args_at ms) marks
-  three_is = drop_after (for_each third_stems 0 ms) marks two three (third_from ms) two_is (w.left_third ∙ ap (λ zs. after (for_each third_stems 0 zs) two) second_same)
+  three_is = drop_after (for_each third_stems 0 ms) marks two three (third_from ms) two_is
+      (w.left_third ∙ ap (λ zs. after (for_each third_stems 0 zs) two) second_same)
 
   items_handed : third ≡ items_of ms n marks
   items_handed =
@@ -52,8 +54,10 @@ module _ {ms : List Seen} {n : ℕ} {marks one two three : List ℕ} {first seco
       let at_two = two_is in
       cc
 
-  constructor_handed : (derived calls : Bool) (members : List Seen) (made : Constructor) → calls ≡ constructor_calls ms → members ≡ members_of third →
-      made ≡ cond calls (constructor_from 0 members (some_if derived (named Args three 0)) 0) AsWritten → made ≡ constructor_of derived ms marks
+  constructor_handed : (derived calls : Bool) (members : List Seen) (made : Constructor) →
+      calls ≡ constructor_calls ms → members ≡ members_of third →
+      made ≡ cond calls (constructor_from 0 members (some_if derived (named Args three 0)) 0) AsWritten →
+      made ≡ constructor_of derived ms marks
   constructor_handed derived calls members made are seen is =
       let on = at_drop (named Args) (named_on Args) marks (args_at ms) in
       let at_three = three_is in

@@ -1,5 +1,5 @@
 -- What walk 1 takes out, one decorator after another.
-use Rattle.std.proofs.Common.{◌≡◌, ℕ, ◌+◌, ◌<◌, ◌≤◌, Bool, true, false, cond, List, [], ◌∷◌, ◌++◌, map, length, take, filter, Option, refl, sym, ap, ◌∙◌, append_assoc, arith}
+use Rattle.std.proofs.Common.{◌≡◌, ℕ, ◌<◌, Bool, true, false, cond, List, [], ◌∷◌, ◌++◌, map, length, take, filter, Option, refl, sym, ap, ◌∙◌, append_assoc, arith}
 use Rattle.std.proofs.lemmas.List.{take_all, length_push}
 use Rattle.formats.specs.declared.Place.{Place}
 use Rattle.pieces.specs.declared.parts.Decorator.{Decorator}
@@ -28,6 +28,7 @@ after_if : {X Y : Type 0} (b : Bool) (x : X) (y : Y) (marks : List ℕ) → afte
 after_if true x y marks = refl
 after_if false x y marks = refl
 
+-- The name of the decorator d is drawn, if d is taken out.
 module _ (walked : Bool) (d : Decorator) (marks next : List ℕ) (drawn : next ≡ after (if_so (taken_out walked d) (Dec ∷ [])) marks) where
   pub decorations_turn : (one : Decoration) → one ≡ cond (taken_out walked d) (Assigned (named Dec marks 0)) (Written d.text) →
       (rest : List Decorator) → decorations walked (d ∷ rest) marks 0 ≡ one ∷ decorations walked rest next 0
@@ -38,12 +39,15 @@ module _ (walked : Bool) (d : Decorator) (marks next : List ℕ) (drawn : next �
         | false ↦ refl
       ])
 
+  abbrev assigned : Assignment
+  assigned = record { name = named Dec marks 0; text = d.text }
+
   pub assignments_turn : (rest : List Decorator) →
       decorator_assignments walked (d ∷ rest) marks 0
-      ≡ if_so (taken_out walked d) (record { name = named Dec marks 0; text = d.text } ∷ []) ++ decorator_assignments walked rest next 0
+      ≡ if_so (taken_out walked d) (assigned ∷ []) ++ decorator_assignments walked rest next 0
   assignments_turn rest = rw drawn (elim (taken_out walked d) as (λ b.
-      cond b (record { name = named Dec marks 0; text = d.text } ∷ decorator_assignments walked rest marks 1) (decorator_assignments walked rest marks 0)
-      ≡ if_so b (record { name = named Dec marks 0; text = d.text } ∷ []) ++ decorator_assignments walked rest (after (if_so b (Dec ∷ [])) marks) 0) [
+      cond b (assigned ∷ decorator_assignments walked rest marks 1) (decorator_assignments walked rest marks 0)
+      ≡ if_so b (assigned ∷ []) ++ decorator_assignments walked rest (after (if_so b (Dec ∷ [])) marks) 0) [
         | true ↦ simp (decorator_assignments_on walked rest marks 1 0)
         | false ↦ refl
       ])
@@ -52,16 +56,20 @@ module _ (walked : Bool) (d : Decorator) (marks next : List ℕ) (drawn : next �
   drawn_turn = drawn ∙ after_if (taken_out walked d) Dec d marks
 
 pub filter_turn : {X : Type 0} (p : X → Bool) (x : X) (rest : List X) → filter p (x ∷ rest) ≡ if_so (p x) (x ∷ []) ++ filter p rest
-filter_turn p x rest = elim (p x) as (λ b. cond b (x ∷ filter p rest) (filter p rest) ≡ if_so b (x ∷ []) ++ filter p rest) [ true ↦ refl | false ↦ refl ]
+filter_turn p x rest =
+    elim (p x) as (λ b. cond b (x ∷ filter p rest) (filter p rest) ≡ if_so b (x ∷ []) ++ filter p rest) [ true ↦ refl | false ↦ refl ]
 
 -- Walk 1 over m: its decorators ds, and then its key.
-module _ (m : Seen) (marks next last : List ℕ) (walked out : Bool) (ds : List Decorator) (is_walked : walked ≡ taken m) (is_out : out ≡ replaced m) (are : ds ≡ m.decorators)
-    (drawn : next ≡ after (filter (taken_out walked) ds) marks) where
-  same_next : next ≡ after (filter (taken_out (taken m)) m.decorators) marks
+module _ (m : Seen) (marks next last : List ℕ) (walked out : Bool) (ds : List Decorator) (is_walked : walked ≡ taken m)
+    (is_out : out ≡ replaced m) (are : ds ≡ m.decorators) (drawn : next ≡ after (filter (taken_out walked) ds) marks) where
+  abbrev out_of_m : List Decorator
+  out_of_m = filter (taken_out (taken m)) m.decorators
+
+  same_next : next ≡ after out_of_m marks
   same_next = rw (← is_walked, ← are) drawn
 
   key_is : named ComputedKey next 0 ≡ key_name marks 0 m
-  key_is = ap (λ ms. named ComputedKey ms 0) same_next ∙ sym (at_after (named ComputedKey) (named_on ComputedKey) (filter (taken_out (taken m)) m.decorators) marks)
+  key_is = ap (λ zs. named ComputedKey zs 0) same_next ∙ sym (at_after (named ComputedKey) (named_on ComputedKey) out_of_m marks)
 
   pub key_taken : (key : Option Name) → key ≡ some_if out (named ComputedKey next 0) → key ≡ some_if (replaced m) (key_name marks 0 m)
   key_taken key is = is ∙ (ap (λ b. some_if b (named ComputedKey next 0)) is_out ∙ ap (some_if (replaced m)) key_is)
@@ -69,7 +77,8 @@ module _ (m : Seen) (marks next last : List ℕ) (walked out : Bool) (ds : List 
   pub list_taken : (list : List Decoration) → list ≡ decorations walked ds marks 0 → list ≡ decorations (taken m) m.decorators marks 0
   list_taken list is = rw (← is_walked, ← are) is
 
-  pub rows_taken : (rows more all : List Assignment) (text : Place) → text ≡ m.key.text → more ≡ rows ++ decorator_assignments walked ds marks 0 →
+  pub rows_taken : (rows more all : List Assignment) (text : Place) →
+      text ≡ m.key.text → more ≡ rows ++ decorator_assignments walked ds marks 0 →
       all ≡ more ++ if_so out (record { name = named ComputedKey next 0; text = text } ∷ []) → all ≡ rows ++ member_assignments marks 0 m
   rows_taken rows more all text same one two =
       let key = key_is in
@@ -78,7 +87,6 @@ module _ (m : Seen) (marks next last : List ℕ) (walked out : Bool) (ds : List 
 
   pub left_taken : last ≡ after (if_so out (ComputedKey ∷ [])) next → last ≡ after (first_stems m) marks
   left_taken is =
-      let out_of_m = filter (taken_out (taken m)) m.decorators in
       let both = after_append (map (λ d. Dec) out_of_m) (if_so (replaced m) (ComputedKey ∷ [])) marks in
       let each = after_map (λ d. Dec) out_of_m marks in
       let same = same_next in

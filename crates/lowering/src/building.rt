@@ -1,12 +1,13 @@
 //! The constructor.
-ghost use Rattle.std.specs.Prelude.{◌≡◌, cond, [], ◌∷◌, map};
+ghost use Rattle.std.specs.Prelude.{◌≡◌, not, ◌&&◌, cond, [], ◌∷◌, map};
 ghost use Rattle.rules.specs.declared.forming.Constructor.TheVariants.{AsWritten};
 ghost use Rattle.rules.specs.declared.naming.Stem.TheVariants.{Args};
+ghost use Rattle.rules.specs.Members.{any_of, built};
 ghost use Rattle.rules.specs.Draws.{named, constructor_calls, draws_args, if_so};
 ghost use Rattle.rules.specs.Records.{constructor_from};
 ghost use Rattle.rules.specs.Walks.{some_if, item_of};
-ghost use Rattle.lowering.specs.Left.{after};
 ghost use Rattle.lowering.specs.Items.{members_of};
+ghost use Rattle.lowering.specs.Left.{after};
 
 use crate::members::{is_built, is_constructor};
 use crate::names::Names;
@@ -15,7 +16,10 @@ use rules::{Constructor, Made, Stem};
 /// Where the instance starter's call stands: in the constructor with a body, or else in a new one, in a derived class with
 /// arguments.
 fn place_call(members: &[Made], derived: bool, names: &mut Names<'_>) -> Constructor
-    ensures { result ≡ constructor_from 0 (members_of (map item_of members.now)) (some_if derived (named Args names.old 0)) 0 }
+    ensures is { let ms = members_of (map item_of members.now) in
+        result ≡ constructor_from 0 ms (some_if derived (named Args names.old 0)) 0 }
+    ensures left { let ms = members_of (map item_of members.now) in
+        names.new ≡ after (if_so (not (any_of built ms) && derived) (Args ∷ [])) names.old }
 {
     let mut before = 0;
     for (member, made) in members.iter().enumerate() {
@@ -41,7 +45,10 @@ pub(crate) fn construct(
     names: &mut Names<'_>,
 ) -> Constructor
     requires { calls ≡ constructor_calls (members_of (map item_of members.now)) }
-    ensures { result ≡ cond calls (constructor_from 0 (members_of (map item_of members.now)) (some_if derived (named Args names.old 0)) 0) AsWritten }
+    ensures is { let ms = members_of (map item_of members.now) in
+        result ≡ cond calls (constructor_from 0 ms (some_if derived (named Args names.old 0)) 0) AsWritten }
+    ensures left { let ms = members_of (map item_of members.now) in
+        names.new ≡ after (if_so (draws_args derived ms) (Args ∷ [])) names.old }
 {
     if calls {
         place_call(members, derived, names)

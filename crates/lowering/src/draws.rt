@@ -9,6 +9,9 @@ use crate::members::{is_built, is_replaced, is_taken, is_taken_out, treatment_of
 use rules::{Held, Starters, Treatment};
 use sheet::Parts;
 
+/// A class draws at most 17 names for each of its members, and one for a new constructor.
+pub(crate) const MOST_MARKS: usize = 1089;
+
 /// What was counted of the members so far: the names, the starters, and whether there is a constructor with a body.
 #[derive(Clone, Copy)]
 pub(crate) struct Tally {

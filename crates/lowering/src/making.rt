@@ -2,7 +2,7 @@
 ghost use Rattle.std.specs.Prelude.{◌≡◌, ◌≤◌, [], ◌∷◌, cond};
 ghost use Rattle.sheet.specs.Seen.{seen_parts};
 ghost use Rattle.rules.specs.Members.{treatment, replaced};
-ghost use Rattle.rules.specs.Draws.{named, starter_stem, if_so, starters_after, access_stems, second_stems, third_stems_of, third_stems};
+ghost use Rattle.rules.specs.Draws.{named, starter_stem, if_so, starters_after, access_stems, second_stems, third_stems};
 ghost use Rattle.rules.specs.Walks.{some_if, storage_of, initializer, access, second_item, third_form, third_item, item_of, number_after};
 ghost use Rattle.rules.specs.declared.naming.Stem.TheVariants.{Init};
 ghost use Rattle.rules.specs.declared.treating.Treatment.TheVariants.{DecoratedAccessor, DecoratedElement};
@@ -57,6 +57,7 @@ fn access_of(private: bool, parts: &Parts, names: &mut Names<'_>) -> Option<Acce
     ensures is { result ≡ access private (seen_parts parts.now) names.old 0 }
     ensures left { names.new ≡ after (access_stems private (seen_parts parts.now)) names.old }
 {
+    // no `private.then(..)`, for the reason that stands at `Names::next_if`
     if !private {
         return None;
     }
@@ -152,23 +153,23 @@ fn second_of(parts: &Parts, reached: Reached, names: &mut Names<'_>) -> Second
     ensures is { result ≡ second_as (treatment (seen_parts parts.now)) reached names.old (seen_parts parts.now) }
     ensures left { names.new ≡ after (second_stems reached.starters (seen_parts parts.now)) names.old }
 {
-    let form = match treatment_of(parts) {
-        Treatment::DecoratedAccessor(private) => {
-            return second_of_accessor(private, parts, reached, names);
-        }
-        Treatment::DecoratedElement(private) => {
-            return second_of_element(private, parts, reached, names);
-        }
-        Treatment::Stored => MadeForm::Stored {
-            storage: storage_of(parts, reached.number),
-            value: text_of(parts.body),
-            parameter: names.next(Stem::V),
+    match treatment_of(parts) {
+        Treatment::Untouched | Treatment::DecoratedField(_) => Second {
+            form: MadeForm::AsWritten,
+            starter: None,
         },
-        Treatment::Untouched | Treatment::DecoratedField(_) => MadeForm::AsWritten,
-    };
-    Second {
-        form,
-        starter: None,
+        Treatment::Stored => Second {
+            form: MadeForm::Stored {
+                storage: storage_of(parts, reached.number),
+                value: text_of(parts.body),
+                parameter: names.next(Stem::V),
+            },
+            starter: None,
+        },
+        Treatment::DecoratedAccessor(private) => {
+            second_of_accessor(private, parts, reached, names)
+        }
+        Treatment::DecoratedElement(private) => second_of_element(private, parts, reached, names),
     }
 }
 

@@ -6,7 +6,7 @@ ghost use Rattle.lowering.specs.Hands.{seen_hand};
 ghost use Rattle.lowering.specs.Supplies.{supplied, answer_of, Supplied};
 
 use crate::checks::{check_constructors, number_accessors};
-use crate::draws::count_draws;
+use crate::draws::{MOST_MARKS, count_draws};
 use crate::faults::LowerFault;
 use crate::numbers::{Numbers, Restore};
 use marks::{Marks, draw_into};
@@ -20,14 +20,14 @@ pub(crate) fn supply<S: Marks>(
     derived: bool,
     source: &mut S,
     numbers: &mut Numbers,
-    marks: &mut [u16],
+    marks: &mut [u16; MOST_MARKS],
 ) -> Result<usize, LowerFault>
-    requires few { length hand.now ≤ 64 }
-    requires room { length marks.old ≡ 1089 }
+    requires { length hand.now ≤ 64 }
     ensures answer { answer_of result ≡ supplied derived numbers.old.storage (S.free source.old) (seen_hand hand.now) }
     ensures total { IfOk result (λ n. n ≡ length (draws derived (seen_hand hand.now))) }
     ensures few { IfOk result (λ n. n ≤ 1089) }
-    ensures storage { numbers.new.storage ≡ (if is_ok result then numbers.old.storage + count_by accessor (seen_hand hand.now) else numbers.old.storage) }
+    ensures storage { let raised = numbers.old.storage + count_by accessor (seen_hand hand.now) in
+        numbers.new.storage ≡ (if is_ok result then raised else numbers.old.storage) }
     ensures fits { OnOk result (numbers.old.storage + count_by accessor (seen_hand hand.now) ≤ 65535) }
     ensures drawn { Supplied S.free S.steps result marks.new source.old source.new }
 {

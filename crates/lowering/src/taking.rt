@@ -38,6 +38,9 @@ pub(crate) fn merge_decorators(decorations: &[Decoration]) -> Decorators
 }
 
 /// Takes out a text that is evaluated ahead of the class, if it is one: it is assigned to the next name.
+///
+/// Here and below the names and the assignments stay two parameters. In a struct of two `&mut`, each function would also have to
+/// promise that these are still the same two.
 fn take_out(
     wanted: bool,
     stem: Stem,
@@ -47,7 +50,8 @@ fn take_out(
 ) -> Option<Name>
     requires { length (rows_of assignments.old) < 576 }
     ensures name { result ≡ some_if wanted (named stem names.old 0) }
-    ensures rows { rows_of assignments.new ≡ rows_of assignments.old ++ if_so wanted (record { name = named stem names.old 0; text = text } ∷ []) }
+    ensures rows { rows_of assignments.new ≡ rows_of assignments.old
+        ++ if_so wanted (record { name = named stem names.old 0; text = text } ∷ []) }
     ensures few { length (rows_of assignments.new) ≤ length (rows_of assignments.old) + 1 }
     ensures left { names.new ≡ after (if_so wanted (stem ∷ [])) names.old }
 {
@@ -67,7 +71,8 @@ fn take_decorator(
 ) -> Decoration
     requires { length (rows_of assignments.old) < 576 }
     ensures is { result ≡ cond (taken_out walked decorator) (Assigned (named Dec names.old 0)) (Written decorator.text) }
-    ensures rows { rows_of assignments.new ≡ rows_of assignments.old ++ if_so (taken_out walked decorator) (record { name = named Dec names.old 0; text = decorator.text } ∷ []) }
+    ensures rows { rows_of assignments.new ≡ rows_of assignments.old
+        ++ if_so (taken_out walked decorator) (record { name = named Dec names.old 0; text = decorator.text } ∷ []) }
     ensures few { length (rows_of assignments.new) ≤ length (rows_of assignments.old) + 1 }
     ensures left { names.new ≡ after (if_so (taken_out walked decorator) (Dec ∷ [])) names.old }
 {
@@ -104,7 +109,7 @@ fn take_decorators(
     list
 }
 
-/// Walk 1 over one member in hand, which is written whole.
+/// Walk 1 over one member in hand, which is written whole, with the computed identifier as its key if the key was taken out.
 pub(crate) fn take_first(
     slot: &mut Held,
     names: &mut Names<'_>,
@@ -122,13 +127,9 @@ pub(crate) fn take_first(
     let decorators = parts.decorators.as_slice();
     let decorations = take_decorators(is_taken(parts), decorators, names, assignments);
     let replaced = is_replaced(parts);
-    let key = match take_out(
-        replaced,
-        Stem::ComputedKey,
-        parts.key.text,
-        names,
-        assignments,
-    ) {
+    let text = parts.key.text;
+    let computed = take_out(replaced, Stem::ComputedKey, text, names, assignments);
+    let key = match computed {
         Some(name) => HandKey::Computed(name),
         None => HandKey::Written,
     };

@@ -36,7 +36,7 @@ pub(crate) fn walk_first(
 /// Walk 2: accessors, methods, getters and setters. `number` is the storage number before. Answers whether the instance starter's
 /// call is left to the constructor.
 pub(crate) fn walk_second(members: &mut Table<Made, 64>, number: u16, names: &mut Names<'_>) -> bool
-    requires { number + count_by (λ x. accessor (item_of x).member) (rows_of members.old) ≤ 65535 }
+    requires { number + count_by accessor (members_of (map item_of (rows_of members.old))) ≤ 65535 }
     ensures items { map item_of (rows_of members.new) ≡ second_walk no_starters number names.old 0 (map item_of (rows_of members.old)) }
     ensures calls { result ≡ constructor_calls (members_of (map item_of (rows_of members.old))) }
     ensures left { names.new ≡ after (for_second_walk no_starters 0 (members_of (map item_of (rows_of members.old)))) names.old }

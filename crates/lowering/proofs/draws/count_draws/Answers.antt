@@ -13,18 +13,22 @@ loop-held-preserved c =
     let t = c.loop-held.tally in
     let more = at_drop_item (λ xs. tallied t (seen_hand xs)) hs i c.held-item.result c.loop-held-test.true c.held-item.is in
     let is = c.tally_after-tally.ensures.is ∙ ap (tally_after t) c.parts.ensures in
-    let inv = c.loop-held.invariant in (
-      ap (λ u. tallied u (seen_hand (drop (i + 1) hs))) is ∙ (sym more ∙ inv.0),
-      omega (arith, c.tally_after-tally.ensures.few, inv.1),
-    )
+    let inv = c.loop-held.invariant in
+    record {
+      tally = ap (λ u. tallied u (seen_hand (drop (i + 1) hs))) is ∙ (sym more ∙ inv.tally);
+      names = omega (arith, c.tally_after-tally.ensures.few, inv.names);
+    }
 
 pub returns : goal.returns
 returns c =
     let hs = c.args.hand.now in
     let t = c.loop-held.tally in
     let none = at_drop_all (λ xs. tallied t (seen_hand xs)) hs c.loop-held.held-index c.loop-held-test.false in
-    let all : t ≡ tallied started (seen_hand hs) = sym none ∙ c.loop-held.invariant.0 in
+    let all : t ≡ tallied started (seen_hand hs) = sym none ∙ c.loop-held.invariant.tally in
     let total = c.total_of.ensures ∙ ap (λ u. total_of u c.args.derived) all in
     let few = total_few t c.args.derived in
     let short : c.loop-held.held-index ≤ 64 = omega (arith, c.requires, c.loop-held.auto.held-index-end) in
-    record { is = total ∙ total_drawn c.args.derived (seen_hand hs); few = omega (arith, c.total_of.ensures, few, short, c.loop-held.invariant.1) }
+    record {
+      is = total ∙ total_drawn c.args.derived (seen_hand hs);
+      few = omega (arith, c.total_of.ensures, few, short, c.loop-held.invariant.names);
+    }

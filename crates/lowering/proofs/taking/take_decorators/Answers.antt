@@ -1,8 +1,7 @@
-use Rattle.std.proofs.Common.{◌≡◌, ◌+◌, ◌<◌, ◌++◌, length, get_or, filter, ap, ◌∙◌, arith}
+use Rattle.std.proofs.Common.{◌<◌, length, get_or, filter, ap, arith}
 use Rattle.std.proofs.lemmas.List.{length_push}
 use Rattle.lists.specs.Listed.{listed}
 use Rattle.rules.specs.declared.describing.Decoration.{Decoration}
-use Rattle.rules.specs.declared.naming.Stem.TheVariants.{Dec}
 use Rattle.rules.specs.Members.{taken_out}
 use Rattle.rules.specs.Walks.{decorations, decorator_assignments}
 use Rattle.lowering.specs.Rows.{rows_of}
@@ -28,8 +27,8 @@ loop-decorator-preserved c =
     record {
       list = appends ds i nowhere within (λ xs. decorations walked xs marks 0) (λ xs. decorations walked xs next 0) list _ _ _
           (decorations_turn walked d marks next drawn c.take_decorator.result c.take_decorator.ensures.is) more inv.list;
-      rows = appends ds i nowhere within (λ xs. decorator_assignments walked xs marks 0) (λ xs. decorator_assignments walked xs next 0) rows _ _ _
-          (assignments_turn walked d marks next drawn) c.take_decorator.ensures.rows inv.rows;
+      rows = appends ds i nowhere within (λ xs. decorator_assignments walked xs marks 0) (λ xs. decorator_assignments walked xs next 0)
+          rows _ _ _ (assignments_turn walked d marks next drawn) c.take_decorator.ensures.rows inv.rows;
       left = leaves ds i nowhere within (filter (taken_out walked)) (filter (taken_out walked)) _ marks next _
           (filter_turn (taken_out walked) d) (drawn_turn walked d marks next drawn) inv.left;
       full = omega (arith, ap length more, length_push {X = Decoration}, inv.full);

@@ -21,13 +21,13 @@ returns c =
     let m = seen_held c.args.slot.now in
     let marks = c.args.names.now in
     let next = c.take_decorators-decorations.new.names in
-    let last = c.take_out.new.names in
+    let last = c.take_out-computed.new.names in
     let walked = c.is_taken.ensures ∙ ap taken c.parts-parts.ensures in
     let out = c.is_replaced-replaced.ensures ∙ ap replaced c.parts-parts.ensures in
     let are = c.as_slice-decorators.ensures ∙ ap (λ x. x.decorators) c.parts-parts.ensures in
     let left = c.take_decorators-decorations.ensures.left in
-    let taken_key = key_taken m marks next last _ _ _ walked out are left _ c.take_out.ensures.name in
-    let key : c.match-take_out.key ≡ hand_key marks 0 m = elim c.match-take_out.branch [
+    let taken_key = key_taken m marks next last _ _ _ walked out are left _ c.take_out-computed.ensures.name in
+    let key : c.match-computed.key ≡ hand_key marks 0 m = elim c.match-computed.branch [
       | in-Some w ↦ w.key-is ∙ key_some (replaced m) _ _ (sym w.in-Some.is ∙ taken_key)
       | in-None w ↦ w.key-is ∙ key_none (replaced m) _ (sym w.in-None.is ∙ taken_key)
     ] in
@@ -37,7 +37,7 @@ returns c =
       item = cc;
       held = refl;
       rows = rows_taken m marks next last _ _ _ walked out are left _ _ _ _ (ap (λ x. x.key.text) c.parts-parts.ensures)
-          c.take_decorators-decorations.ensures.rows c.take_out.ensures.rows;
-      few = omega (arith, c.take_decorators-decorations.ensures.few, c.take_out.ensures.few);
-      left = left_taken m marks next last _ _ _ walked out are left c.take_out.ensures.left;
+          c.take_decorators-decorations.ensures.rows c.take_out-computed.ensures.rows;
+      few = omega (arith, c.take_decorators-decorations.ensures.few, c.take_out-computed.ensures.few);
+      left = left_taken m marks next last _ _ _ walked out are left c.take_out-computed.ensures.left;
     }

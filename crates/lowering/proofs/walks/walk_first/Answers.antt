@@ -1,4 +1,4 @@
-use Rattle.std.proofs.Common.{◌≡◌, ◌+◌, ◌<◌, ◌∷◌, length, get_or, drop, set, map, sym, ap, ◌∙◌, arith}
+use Rattle.std.proofs.Common.{◌+◌, ◌<◌, length, get_or, map, ap, ◌∙◌, arith}
 use Rattle.std.proofs.lemmas.List.{drop-set-lt, length_push, map_push}
 use Rattle.std.proofs.lemmas.Grind.{drop_more_same}
 use Rattle.rules.specs.Draws.{first_stems}
@@ -26,8 +26,8 @@ loop-slot-preserved c =
     let pushed = ap (map item_of) c.push.ensures ∙ map_push item_of out made in
     record {
       hand = drop-set-lt (i + 1) xs i _ (omega arith) ∙ drop_more_same xs hs i inv.hand;
-      items = first_turn marks next _ _ (item_of made) _ _ (seen_held x) _ pushed members took.item took.left inv.items;
-      rows = rows_turn marks next _ _ _ _ (seen_held x) _ took.rows members took.left inv.rows;
+      items = first_turn marks next _ _ _ (item_of made) (seen_held x) _ _ pushed members took.item took.left inv.items;
+      rows = rows_turn marks next _ _ _ (seen_held x) _ _ took.rows members took.left inv.rows;
       left = each_left i (seen_held x) _ _ marks next _ members first_stems took.left inv.left;
       made = omega (arith, ap length c.push.ensures ∙ length_push out made, inv.made);
       few = omega (arith, took.few, inv.few);

@@ -1,12 +1,12 @@
-use Rattle.std.proofs.Common.{◌≡◌, ◌+◌, ◌<◌, ◌≤◌, not, ◌&&◌, map, length, get_or, drop, set, count_by, sym, ap, ◌∙◌, arith}
-use Rattle.std.proofs.lemmas.List.{at_drop_all, drop-set-lt}
-use Rattle.rules.specs.declared.treating.Starters.{Starters}
+use Rattle.std.proofs.Common.{◌+◌, ◌<◌, ◌≤◌, not, ◌&&◌, map, length, get_or, drop, set, count_by, sym, ap, ◌∙◌, arith}
+use Rattle.std.proofs.lemmas.List.{at_drop_all}
+use Rattle.rules.specs.Members.{accessor}
 use Rattle.rules.specs.Walks.{item_of}
 use Rattle.lowering.specs.Items.{members_of}
 use Rattle.lowering.specs.Rows.{rows_of}
 use Rattle.lowering.specs.Tallies.{starters_over}
 use Rattle.lowering.proofs.Counts.{calls_over}
-use Rattle.lowering.proofs.Walked.{second_left, second_turn, written_front, written_back, is_accessor, numbers_more}
+use Rattle.lowering.proofs.Walked.{second_left, second_turn, written_front, written_back, numbers_more}
 use Rattle.lowering.proofs.walks.walk_second.Goals as goal
 
 pub loop-made-preserved : goal.loop-made-preserved
@@ -26,13 +26,13 @@ loop-made-preserved c =
     let front = written_front item_of xs i d y within in
     let back = written_back item_of xs i d y within in
     let members = ap members_of back in
-    let left = map item_of (drop (i + 1) (set xs i y)) in
-    let rest = ap (count_by is_accessor) (drop-set-lt (i + 1) xs i y (omega arith)) in
+    let rest = members_of (map item_of (drop (i + 1) (set xs i y))) in
     record {
-      items = second_turn marks next _ _ _ _ (item_of y) _ front x r.starters t.starters r.number t.number back made.item made.starters made.number made.left inv.items;
-      starters = ap (λ s. starters_over s (members_of left)) made.starters ∙ (sym (ap (starters_over r.starters) members) ∙ inv.starters);
+      items = second_turn marks next r.starters t.starters r.number t.number _ _ _ x (item_of y) _ _ front back
+          made.item made.starters made.number made.left inv.items;
+      starters = ap (λ s. starters_over s rest) made.starters ∙ (sym (ap (starters_over r.starters) members) ∙ inv.starters);
       left = second_left i x.member _ _ marks next _ members r.starters t.starters made.starters made.left inv.left;
-      numbers = omega (arith, numbers_more r.number xs i d within, rest, made.number, inv.numbers);
+      numbers = omega (arith, ap (count_by accessor) members, numbers_more r.number x.member rest, made.number, inv.numbers);
     }
 
 pub returns-clause-calls : goal.returns-clause-calls
@@ -41,5 +41,5 @@ returns-clause-calls c =
     let s = c.loop-made.reached.starters in
     let done : length xs ≤ c.loop-made.made-index = omega (arith, c.loop-made-test.false, c.loop-made.auto.made-items) in
     let none = at_drop_all (λ zs. starters_over s (members_of (map item_of zs))) xs c.loop-made.made-index done in
-    c.is_call_left.ensures
-    ∙ (ap (λ t. t.instance && not t.called) (sym none ∙ c.loop-made.invariant.starters) ∙ calls_over (members_of (map item_of (rows_of c.args.members.now))))
+    let all = calls_over (members_of (map item_of (rows_of c.args.members.now))) in
+    c.is_call_left.ensures ∙ (ap (λ t. t.instance && not t.called) (sym none ∙ c.loop-made.invariant.starters) ∙ all)

@@ -14,10 +14,12 @@ loop-made-preserved c =
     let y = c.make_third.new.made in
     let marks = c.loop-made.names in
     let next = c.make_third.new.names in
+    let made = c.make_third.ensures in
+    let inv = c.loop-made.invariant in
     let within : i < length xs = omega (arith, c.loop-made-test.true, c.loop-made.auto.made-items) in
     let front = written_front item_of xs i d y within in
     let back = written_back item_of xs i d y within in
     record {
-      items = third_turn marks next _ _ _ _ (item_of y) _ front x back c.make_third.ensures.item c.make_third.ensures.left c.loop-made.invariant.items;
-      left = each_left i x.member _ _ marks next _ (ap members_of back) third_stems c.make_third.ensures.left c.loop-made.invariant.left;
+      items = third_turn marks next _ _ _ x (item_of y) _ _ front back made.item made.left inv.items;
+      left = each_left i x.member _ _ marks next _ (ap members_of back) third_stems made.left inv.left;
     }

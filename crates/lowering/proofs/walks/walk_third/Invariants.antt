@@ -10,8 +10,9 @@ use Rattle.lowering.proofs.walks.walk_third.Given as goal
 abbrev pub invariant-loop-made : goal.invariant-loop-made
 invariant-loop-made l =
     let all = map item_of (rows_of l.fn.members) in
-    let left = map item_of (drop l.made-index l.made-items) in
+    let rest = map item_of (drop l.made-index l.made-items) in
     record {
-      items : map item_of (take l.made-index l.made-items) ++ third_walk l.names 0 left ≡ third_walk l.fn.names 0 all;
-      left : after (for_each third_stems l.made-index (members_of left)) l.names ≡ after (for_each third_stems 0 (members_of all)) l.fn.names;
+      items : map item_of (take l.made-index l.made-items) ++ third_walk l.names 0 rest ≡ third_walk l.fn.names 0 all;
+      left : after (for_each third_stems l.made-index (members_of rest)) l.names
+          ≡ after (for_each third_stems 0 (members_of all)) l.fn.names;
     }
