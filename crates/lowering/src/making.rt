@@ -140,9 +140,11 @@ fn second_of_element(
     ensures is { result ≡ second_as (DecoratedElement private) reached names.old (seen_parts parts.now) }
     ensures left { names.new ≡ after (stems_as (DecoratedElement private) reached.starters (seen_parts parts.now)) names.old }
 {
-    let form = match names.next_if(private, Stem::Call(parts.key.text)) {
-        Some(name) => MadeForm::Called { name },
-        None => MadeForm::AsWritten,
+    let form = if private {
+        let name = names.next(Stem::Call(parts.key.text));
+        MadeForm::Called { name }
+    } else {
+        MadeForm::AsWritten
     };
     let starter = next_starter(parts.flags.is_static, parts, reached.starters, names);
     Second { form, starter }
