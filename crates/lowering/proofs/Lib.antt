@@ -1,13 +1,14 @@
-pub mod Built
 pub mod Checking
 pub mod Counts
 pub mod Described
 pub mod Filled
 pub mod Grouped
+pub mod Handed
 pub mod Kept
+pub mod Left
 pub mod Named
 pub mod Rooms
-pub mod Supplying
+pub mod Seconds
 pub mod Taken
 pub mod Turns
 pub mod Walked

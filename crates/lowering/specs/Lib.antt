@@ -2,11 +2,14 @@ pub mod Checks
 pub mod Examples
 pub mod Groups
 pub mod Hands
+pub mod Items
+pub mod Left
 pub mod Lowers
 pub mod Picks
 pub mod Recorded
 pub mod Refusals
 pub mod Rows
+pub mod Seconds
 pub mod States
 pub mod Supplies
 pub mod Tallies

@@ -1,5 +1,5 @@
 -- What a class gets before it is lowered: a storage number for each accessor, and a mark for each name.
-use Rattle.std.specs.Prelude.{◌≡◌, ℕ, ◌≤◌, Bool, List, length, take, Ok, Err, Result}
+use Rattle.std.specs.Prelude.{◌≡◌, ℕ, Bool, List, length, take, Ok, Err, Result}
 use Rattle.formats.specs.Readers.{then, faulted}
 use Rattle.sheet.specs.Seen.{Seen}
 use Rattle.marks.specs.declared.source.Exhausted.{Exhausted}
@@ -7,8 +7,7 @@ use Rattle.marks.specs.Chains.{Drawn, Several}
 use Rattle.marks.specs.Sets.{Set}
 use Rattle.marks.specs.Sizes.{size}
 use Rattle.marks.specs.Takes.{Takes, report}
-use Rattle.rules.specs.Draws.{draws, second_from, third_from, args_at, constructor_calls}
-use Rattle.lowering.specs.declared.draws.Plan.{Plan}
+use Rattle.rules.specs.Draws.{draws}
 use Rattle.lowering.specs.declared.faults.LowerFault.{LowerFault}
 use Rattle.lowering.specs.declared.faults.LowerFault.TheVariants.{Members, Marks}
 use Rattle.lowering.specs.Checks.{constructors_in, numbers_in}
@@ -24,15 +23,6 @@ supplied derived n free ms =
 abbrev pub answer_of : {X E : Type 0} → Result X E → Result (Unit {0}) E
 answer_of r = then r (λ _. Ok tt)
 
--- where the names of each walk begin among those that the class draws
-pub record Planned (derived : Bool) (ms : List Seen) (p : Plan) : Type 0 where
-  pub second : p.second ≡ second_from ms
-  pub third : p.third ≡ third_from ms
-  pub args : p.args ≡ args_at ms
-  pub total : p.total ≡ length (draws derived ms)
-  pub calls : p.calls ≡ constructor_calls ms
-  pub few : (p.second ≤ 576) × (p.third ≤ 960) × (p.args ≤ 1088) × (p.total ≤ 1089)
-
 module _ {S : Type 0} (free : S → Set) (steps : S → Result ℕ Exhausted → S → Type 0) where
   -- from s to t just these marks are drawn, the first of them first
   pub record Given (ms : List ℕ) (s t : S) : Type 0 where
@@ -46,8 +36,8 @@ module _ {S : Type 0} (free : S → Set) (steps : S → Result ℕ Exhausted →
     pub takes : Takes (free s) lost (free t)
     pub drawn : Several steps (Err e) lost s t
 
-  -- what an answer says of the source: the marks of an accepted class stand first in the table
-  abbrev pub Supplied : Result Plan LowerFault → List ℕ → S → S → Type 0
-  Supplied (Ok p) marks s t = Given (take p.total marks) s t
+  -- what an answer says of the source: the marks of an accepted class, of which there are this many, stand first in the table
+  abbrev pub Supplied : Result ℕ LowerFault → List ℕ → S → S → Type 0
+  Supplied (Ok total) marks s t = Given (take total marks) s t
   Supplied (Err (Members _)) marks s t = t ≡ s
   Supplied (Err (Marks e)) marks s t = Spent e s t

@@ -1,21 +1,29 @@
 //! The constructor.
-ghost use Rattle.std.specs.Prelude.{◌≡◌};
-ghost use Rattle.rules.specs.Records.{constructor_from, constructor_of};
-ghost use Rattle.rules.specs.Draws.{constructor_calls, args_at};
-ghost use Rattle.lowering.specs.Hands.{seen_hand};
+ghost use Rattle.std.specs.Prelude.{◌≡◌, not, ◌&&◌, cond, [], ◌∷◌, map};
+ghost use Rattle.rules.specs.declared.forming.Constructor.TheVariants.{AsWritten};
+ghost use Rattle.rules.specs.declared.naming.Stem.TheVariants.{Args};
+ghost use Rattle.rules.specs.Members.{any_of, built};
+ghost use Rattle.rules.specs.Draws.{named, constructor_calls, draws_args, if_so};
+ghost use Rattle.rules.specs.Records.{constructor_from};
+ghost use Rattle.rules.specs.Walks.{some_if, item_of};
+ghost use Rattle.lowering.specs.Items.{members_of};
+ghost use Rattle.lowering.specs.Left.{after};
 
-use crate::draws::Plan;
-use crate::making::name_at;
 use crate::members::{is_built, is_constructor};
-use rules::{Constructor, Held, Name, Stem};
+use crate::names::Names;
+use rules::{Constructor, Made, Stem};
 
-/// Where the instance starter's call stands: in the constructor with a body, or in a new one with these arguments.
-fn place_call(hand: &[Held], args: Option<Name>) -> Constructor
-    ensures { result ≡ constructor_from 0 (seen_hand hand.now) args 0 }
+/// Where the instance starter's call stands: in the constructor with a body, or else in a new one, in a derived class with
+/// arguments.
+fn place_call(members: &[Made], derived: bool, names: &mut Names<'_>) -> Constructor
+    ensures is { let ms = members_of (map item_of members.now) in
+        result ≡ constructor_from 0 ms (some_if derived (named Args names.old 0)) 0 }
+    ensures left { let ms = members_of (map item_of members.now) in
+        names.new ≡ after (if_so (not (any_of built ms) && derived) (Args ∷ [])) names.old }
 {
     let mut before = 0;
-    for (member, held) in hand.iter().enumerate() {
-        let parts = held.member.parts();
+    for (member, made) in members.iter().enumerate() {
+        let parts = made.held.member.parts();
         if is_built(parts) {
             return Constructor::Old { member };
         }
@@ -23,22 +31,28 @@ fn place_call(hand: &[Held], args: Option<Name>) -> Constructor
             before = member + 1;
         }
     }
-    Constructor::New { before, args }
+    Constructor::New {
+        before,
+        args: names.next_if(derived, Stem::Args),
+    }
 }
 
-/// The constructor of the class, with the instance starter's call if that belongs there.
-pub(crate) fn construct(hand: &[Held], derived: bool, plan: Plan, marks: &[u16]) -> Constructor
-    requires calls { plan.calls ≡ constructor_calls (seen_hand hand.now) }
-    requires args { plan.args ≡ args_at (seen_hand hand.now) }
-    ensures { result ≡ constructor_of derived (seen_hand hand.now) marks.now }
+/// The constructor of the class, with the instance starter's call if that is left to it.
+pub(crate) fn construct(
+    members: &[Made],
+    derived: bool,
+    calls: bool,
+    names: &mut Names<'_>,
+) -> Constructor
+    requires { calls ≡ constructor_calls (members_of (map item_of members.now)) }
+    ensures is { let ms = members_of (map item_of members.now) in
+        result ≡ cond calls (constructor_from 0 ms (some_if derived (named Args names.old 0)) 0) AsWritten }
+    ensures left { let ms = members_of (map item_of members.now) in
+        names.new ≡ after (if_so (draws_args derived ms) (Args ∷ [])) names.old }
 {
-    if !plan.calls {
-        return Constructor::AsWritten;
-    }
-    let args = if derived {
-        Some(name_at(Stem::Args, marks, plan.args))
+    if calls {
+        place_call(members, derived, names)
     } else {
-        None
-    };
-    place_call(hand, args)
+        Constructor::AsWritten
+    }
 }

@@ -11,6 +11,7 @@ mod faults;
 mod groups;
 mod making;
 mod members;
+mod names;
 mod naming;
 mod numbers;
 mod records;

@@ -1,30 +1,33 @@
 //! What a class gets before it is lowered.
 ghost use Rattle.std.specs.Prelude.{◌≡◌, ◌+◌, ◌≤◌, length, is_ok, IfOk, if◌then◌else◌, count_by, OnOk};
 ghost use Rattle.rules.specs.Members.{accessor};
+ghost use Rattle.rules.specs.Draws.{draws};
 ghost use Rattle.lowering.specs.Hands.{seen_hand};
-ghost use Rattle.lowering.specs.Supplies.{supplied, answer_of, Planned, Supplied};
+ghost use Rattle.lowering.specs.Supplies.{supplied, answer_of, Supplied};
 
 use crate::checks::{check_constructors, number_accessors};
-use crate::draws::{Plan, count_draws};
+use crate::draws::{MOST_MARKS, count_draws};
 use crate::faults::LowerFault;
 use crate::numbers::{Numbers, Restore};
 use marks::{Marks, draw_into};
 use rules::Held;
 
 /// Checks the members, raises the storage number by their accessors, and draws the marks of the class into the first places of
-/// `marks`. Refused, it leaves the storage number as it was.
+/// `marks`; it answers how many these are. Refused, it leaves the storage number as it was.
+#[tactic(auto, using(crate::proofs::Checking::numbers_fit))]
 pub(crate) fn supply<S: Marks>(
     hand: &[Held],
     derived: bool,
     source: &mut S,
     numbers: &mut Numbers,
-    marks: &mut [u16],
-) -> Result<Plan, LowerFault>
-    requires few { length hand.now ≤ 64 }
-    requires room { length marks.old ≡ 1089 }
+    marks: &mut [u16; MOST_MARKS],
+) -> Result<usize, LowerFault>
+    requires { length hand.now ≤ 64 }
     ensures answer { answer_of result ≡ supplied derived numbers.old.storage (S.free source.old) (seen_hand hand.now) }
-    ensures plan { IfOk result (λ p. Planned derived (seen_hand hand.now) p) }
-    ensures storage { numbers.new.storage ≡ (if is_ok result then numbers.old.storage + count_by accessor (seen_hand hand.now) else numbers.old.storage) }
+    ensures total { IfOk result (λ n. n ≡ length (draws derived (seen_hand hand.now))) }
+    ensures few { IfOk result (λ n. n ≤ 1089) }
+    ensures storage { let raised = numbers.old.storage + count_by accessor (seen_hand hand.now) in
+        numbers.new.storage ≡ (if is_ok result then raised else numbers.old.storage) }
     ensures fits { OnOk result (numbers.old.storage + count_by accessor (seen_hand hand.now) ≤ 65535) }
     ensures drawn { Supplied S.free S.steps result marks.new source.old source.new }
 {
@@ -36,9 +39,8 @@ pub(crate) fn supply<S: Marks>(
         accepted: false,
     };
     number_accessors(hand, guard.numbers)?;
-    let plan = count_draws(hand, derived);
-    let total = plan.total;
+    let total = count_draws(hand, derived);
     draw_into(source, &mut marks[0..total])?;
     guard.accepted = true;
-    Ok(plan)
+    Ok(total)
 }

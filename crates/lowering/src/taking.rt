@@ -1,22 +1,23 @@
 //! What walk 1 takes out of a member.
-ghost use Rattle.std.specs.Prelude.{◌≡◌, ◌+◌, ◌<◌, ◌≤◌, ◌++◌, length};
+ghost use Rattle.std.specs.Prelude.{◌≡◌, ◌+◌, ◌<◌, ◌≤◌, cond, [], ◌∷◌, ◌++◌, length, filter};
 ghost use Rattle.lists.specs.Listed.{listed};
-ghost use Rattle.sheet.specs.Seen.{seen_parts};
-ghost use Rattle.rules.specs.Members.{taken, replaced};
-ghost use Rattle.rules.specs.Walks.{applied, merged, decorations, decorator_assignments, key_name, hand_key, key_assignments, member_assignments, first_item, item_of};
+ghost use Rattle.rules.specs.declared.describing.Decoration.TheVariants.{Written, Assigned};
+ghost use Rattle.rules.specs.declared.naming.Stem.TheVariants.{Dec};
+ghost use Rattle.rules.specs.Members.{taken_out};
+ghost use Rattle.rules.specs.Draws.{named, if_so, first_stems};
+ghost use Rattle.rules.specs.Walks.{applied, merged, some_if, decorations, decorator_assignments, member_assignments, first_item, item_of};
 ghost use Rattle.lowering.specs.Hands.{seen_held};
+ghost use Rattle.lowering.specs.Left.{after};
 ghost use Rattle.lowering.specs.Rows.{rows_of};
 
-use crate::draws::count_expressions;
-use crate::making::name_at;
 use crate::members::{is_replaced, is_taken, is_taken_out};
+use crate::names::Names;
 use crate::tables::Table;
 use formats::Place;
 use lists::Bounded;
 use pieces::fields::MOST_DECORATORS;
 use pieces::parts::Decorator;
-use rules::{Assignment, Decoration, Decorators, Held, Made, MadeForm, Stem};
-use sheet::Parts;
+use rules::{Assignment, Decoration, Decorators, Held, Made, MadeForm, Name, Stem};
 
 /// A member is assigned at most 9 texts: those of 8 decorators and of its key.
 pub(crate) const MOST_ASSIGNMENTS: usize = 576;
@@ -36,88 +37,99 @@ pub(crate) fn merge_decorators(decorations: &[Decoration]) -> Decorators
     }
 }
 
-/// The decorators with the names from `at` on; those that are taken out are assigned.
+/// Takes out a text that is evaluated ahead of the class, if it is one: it is assigned to the next name.
+///
+/// Here and below the names and the assignments stay two parameters. In a struct of two `&mut`, each function would also have to
+/// promise that these are still the same two.
+fn take_out(
+    wanted: bool,
+    stem: Stem,
+    text: Place,
+    names: &mut Names<'_>,
+    assignments: &mut Table<Assignment, MOST_ASSIGNMENTS>,
+) -> Option<Name>
+    requires { length (rows_of assignments.old) < 576 }
+    ensures name { result ≡ some_if wanted (named stem names.old 0) }
+    ensures rows { rows_of assignments.new ≡ rows_of assignments.old
+        ++ if_so wanted (record { name = named stem names.old 0; text = text } ∷ []) }
+    ensures few { length (rows_of assignments.new) ≤ length (rows_of assignments.old) + 1 }
+    ensures left { names.new ≡ after (if_so wanted (stem ∷ [])) names.old }
+{
+    let taken = names.next_if(wanted, stem);
+    if let Some(name) = taken {
+        assignments.push(Assignment { name, text });
+    }
+    taken
+}
+
+/// The decorator as the descriptor has it; one that is taken out is assigned.
+fn take_decorator(
+    walked: bool,
+    decorator: Decorator,
+    names: &mut Names<'_>,
+    assignments: &mut Table<Assignment, MOST_ASSIGNMENTS>,
+) -> Decoration
+    requires { length (rows_of assignments.old) < 576 }
+    ensures is { result ≡ cond (taken_out walked decorator) (Assigned (named Dec names.old 0)) (Written decorator.text) }
+    ensures rows { rows_of assignments.new ≡ rows_of assignments.old
+        ++ if_so (taken_out walked decorator) (record { name = named Dec names.old 0; text = decorator.text } ∷ []) }
+    ensures few { length (rows_of assignments.new) ≤ length (rows_of assignments.old) + 1 }
+    ensures left { names.new ≡ after (if_so (taken_out walked decorator) (Dec ∷ [])) names.old }
+{
+    let wanted = is_taken_out(walked, decorator);
+    let text = decorator.text;
+    match take_out(wanted, Stem::Dec, text, names, assignments) {
+        Some(name) => Decoration::Assigned(name),
+        None => Decoration::Written(text),
+    }
+}
+
+/// The decorators as the descriptor has them, in written order.
 fn take_decorators(
     walked: bool,
     decorators: &[Decorator],
-    marks: &[u16],
-    at: usize,
+    names: &mut Names<'_>,
     assignments: &mut Table<Assignment, MOST_ASSIGNMENTS>,
 ) -> Bounded<Decoration, MOST_DECORATORS>
     requires few { length decorators.now ≤ 8 }
-    requires at { at ≤ 1900 }
     requires room { length (rows_of assignments.old) + 8 ≤ 576 }
-    ensures list { listed result ≡ decorations walked decorators.now marks.now at }
-    ensures rows { rows_of assignments.new ≡ rows_of assignments.old ++ decorator_assignments walked decorators.now marks.now at }
+    ensures list { listed result ≡ decorations walked decorators.now names.old 0 }
+    ensures rows { rows_of assignments.new ≡ rows_of assignments.old ++ decorator_assignments walked decorators.now names.old 0 }
     ensures few { length (rows_of assignments.new) ≤ length (rows_of assignments.old) + 8 }
+    ensures left { names.new ≡ after (filter (taken_out walked) decorators.now) names.old }
 {
     let nowhere = Place {
         start: 0,
         length: 0,
     };
     let mut list = Bounded::new(Decoration::Written(nowhere));
-    let mut next = at;
     for decorator in decorators {
-        if is_taken_out(walked, *decorator) {
-            let name = name_at(Stem::Dec, marks, next);
-            let text = decorator.text;
-            assignments.push(Assignment { name, text });
-            list.append(Decoration::Assigned(name));
-            next += 1;
-        } else {
-            list.append(Decoration::Written(decorator.text));
-        }
+        list.append(take_decorator(walked, *decorator, names, assignments));
     }
     list
 }
 
-/// Takes the key of a member out, and puts the computed identifier in its place: the member in hand is written whole.
-fn take_key(
-    slot: &mut Held,
-    marks: &[u16],
-    at: usize,
-    assignments: &mut Table<Assignment, MOST_ASSIGNMENTS>,
-)
-    requires at { at ≤ 1900 }
-    requires written { slot.old.key ≡ None }
-    requires room { length (rows_of assignments.old) < 576 }
-    ensures member { slot.new.member ≡ slot.old.member }
-    ensures key { slot.new.key ≡ hand_key marks.now at (seen_held slot.old) }
-    ensures rows { rows_of assignments.new ≡ rows_of assignments.old ++ key_assignments marks.now at (seen_held slot.old) }
-{
-    let member = slot.member;
-    let parts = member.parts();
-    if is_replaced(parts) {
-        let name = name_at(Stem::ComputedKey, marks, at + count_expressions(parts));
-        let text = parts.key.text;
-        assignments.push(Assignment { name, text });
-        *slot = Held {
-            member,
-            key: Some(name),
-        };
-    }
-}
-
-/// Walk 1 over one member in hand, with the names from `at` on.
+/// Walk 1 over one member in hand, which is written whole, with the computed identifier as its key if the key was taken out.
 pub(crate) fn take_first(
     slot: &mut Held,
-    marks: &[u16],
-    at: usize,
+    names: &mut Names<'_>,
     assignments: &mut Table<Assignment, MOST_ASSIGNMENTS>,
 ) -> Made
-    requires at { at ≤ 1000 }
-    requires written { slot.old.key ≡ None }
-    requires room { length (rows_of assignments.old) + 9 ≤ 576 }
-    ensures item { item_of result ≡ first_item marks.now at (seen_held slot.old) }
+    requires { length (rows_of assignments.old) + 9 ≤ 576 }
+    ensures item { item_of result ≡ first_item names.old 0 (seen_held slot.old) }
     ensures held { slot.new ≡ result.held }
-    ensures rows { rows_of assignments.new ≡ rows_of assignments.old ++ member_assignments marks.now at (seen_held slot.old) }
+    ensures rows { rows_of assignments.new ≡ rows_of assignments.old ++ member_assignments names.old 0 (seen_held slot.old) }
     ensures few { length (rows_of assignments.new) ≤ length (rows_of assignments.old) + 9 }
+    ensures left { names.new ≡ after (first_stems (seen_held slot.old)) names.old }
 {
     let member = slot.member;
     let parts = member.parts();
     let decorators = parts.decorators.as_slice();
-    let decorations = take_decorators(is_taken(parts), decorators, marks, at, assignments);
-    take_key(slot, marks, at, assignments);
+    let decorations = take_decorators(is_taken(parts), decorators, names, assignments);
+    let replaced = is_replaced(parts);
+    let text = parts.key.text;
+    let key = take_out(replaced, Stem::ComputedKey, text, names, assignments);
+    *slot = Held { member, key };
     Made {
         held: *slot,
         decorators: merge_decorators(decorations.as_slice()),

@@ -3,15 +3,14 @@ ghost use Rattle.std.specs.Prelude.{◌≡◌, ◌+◌, ◌≤◌, true, [], map
 ghost use Rattle.rules.specs.Members.{accessor};
 ghost use Rattle.rules.specs.Records.{assembled, lowered, empty_record, empty_frame};
 ghost use Rattle.rules.specs.Walks.{item_of};
-ghost use Rattle.lowering.specs.Hands.{seen_hand, all_written};
+ghost use Rattle.lowering.specs.Hands.{seen_hand};
 ghost use Rattle.lowering.specs.Recorded.{record_of};
 ghost use Rattle.lowering.specs.Rows.{rows_of};
-ghost use Rattle.lowering.specs.Supplies.{Planned};
 
 use super::Record;
 use crate::building::construct;
 use crate::describing::describe_all;
-use crate::draws::Plan;
+use crate::names::Names;
 use crate::naming::{declare_all, name_all, starter_of};
 use crate::tables::Table;
 use crate::walks::{walk_first, walk_second, walk_third};
@@ -73,19 +72,17 @@ impl Record {
         hand: &mut Table<Held, 64>,
         number: u16,
         derived: bool,
-        plan: Plan,
         marks: &[u16],
     )
         requires empty { record_of self.old ≡ empty_record }
-        requires written { all_written (rows_of hand.old) ≡ true }
         requires numbers { number + count_by accessor (seen_hand (rows_of hand.old)) ≤ 65535 }
-        requires planned { Planned derived (seen_hand (rows_of hand.old)) plan }
         ensures { record_of self.new ≡ lowered (seen_hand (rows_of hand.old)) derived number marks.now }
     {
-        let constructor = construct(hand.as_slice(), derived, plan, marks);
-        walk_first(hand, marks, &mut self.assignments, &mut self.members);
-        walk_second(&mut self.members, number, marks, plan.second);
-        walk_third(&mut self.members, marks, plan.third);
+        let mut names = Names::of(marks);
+        walk_first(hand, &mut names, &mut self.assignments, &mut self.members);
+        let calls = walk_second(&mut self.members, number, &mut names);
+        walk_third(&mut self.members, &mut names);
+        let constructor = construct(self.members.as_slice(), derived, calls, &mut names);
         self.assemble(constructor);
     }
 }

@@ -6,6 +6,7 @@ ghost use Rattle.lowering.specs.Recorded.{record_of};
 ghost use Rattle.lowering.specs.Supplies.{supplied};
 
 use super::Run;
+use crate::draws::MOST_MARKS;
 use crate::faults::{ClassFault, LowerFault};
 use crate::numbers::Numbers;
 use crate::records::Record;
@@ -15,9 +16,6 @@ use marks::Marks;
 use rules::Held;
 use sheet::Member;
 use std::alloc::{AllocError, Global};
-
-/// A class draws at most 17 names for each of its members, and one for a new constructor.
-const MOST_MARKS: usize = 1089;
 
 impl<S> Run<S> {
     /// A run with no member in hand, which goes on from this storage number.
@@ -57,15 +55,15 @@ impl<S: Marks> Run<S> {
         ensures lowers { Lowers S.free S.steps derived (state_of self.old) result (state_of self.new) (record_of out.new) }
     {
         out.clear();
+        // a buffer in place and a slice of it, since a lowering must not allocate
         let mut marks = [0; MOST_MARKS];
         let mut numbers = self.numbers;
         let before = numbers.last();
         let hand = self.hand.as_slice();
         let supplied = supply(hand, derived, &mut self.source, &mut numbers, &mut marks);
         self.numbers = numbers;
-        let plan = supplied?;
-        let total = plan.total;
-        out.fill(&mut self.hand, before, derived, plan, &marks[0..total]);
+        let total = supplied?;
+        out.fill(&mut self.hand, before, derived, &marks[0..total]);
         self.hand.clear();
         Ok(())
     }

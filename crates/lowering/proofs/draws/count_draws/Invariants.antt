@@ -6,7 +6,7 @@ use Rattle.lowering.proofs.draws.count_draws.Given as goal
 
 abbrev pub invariant-loop-held : goal.invariant-loop-held
 invariant-loop-held l =
-    (tallied l.tally (seen_hand (drop l.held-index l.hand)) ≡ tallied started (seen_hand l.hand))
-    × (l.tally.first ≤ 9 * l.held-index)
-    × (l.tally.second ≤ 6 * l.held-index)
-    × (l.tally.third ≤ 2 * l.held-index)
+    record {
+      tally : tallied l.tally (seen_hand (drop l.held-index l.hand)) ≡ tallied started (seen_hand l.hand);
+      names : l.tally.names ≤ 17 * l.held-index;
+    }

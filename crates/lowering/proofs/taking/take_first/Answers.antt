@@ -1,28 +1,28 @@
-use Rattle.std.proofs.Common.{◌++◌, length, refl, ap, ◌∙◌, append_assoc, arith}
-use Rattle.std.proofs.lemmas.List.{length-append}
-use Rattle.sheet.specs.Members.{seen_member}
-use Rattle.rules.specs.Members.{taken}
-use Rattle.rules.specs.Walks.{merged, decorations, decorator_assignments, key_assignments}
+use Rattle.std.proofs.Common.{◌≡◌, refl, ap, ◌∙◌, arith}
+use Rattle.rules.specs.Members.{taken, replaced}
+use Rattle.rules.specs.Walks.{merged, hand_key}
 use Rattle.lowering.specs.Hands.{seen_held}
-use Rattle.lowering.specs.Rows.{rows_of}
-use Rattle.lowering.proofs.Taken.{made_first, key_few}
+use Rattle.lowering.proofs.Taken.{key_taken, list_taken, rows_taken, left_taken}
 use Rattle.lowering.proofs.taking.take_first.Goals as goal
 
 pub returns : goal.returns
 returns c =
-    let marks = c.args.marks.now in
-    let k = c.args.at in
     let m = seen_held c.args.slot.now in
+    let marks = c.args.names.now in
+    let next = c.take_decorators-decorations.new.names in
+    let last = c.take_out-key.new.names in
     let walked = c.is_taken.ensures ∙ ap taken c.parts-parts.ensures in
-    let all = c.as_slice-decorators.ensures ∙ ap (λ x. x.decorators) c.parts-parts.ensures in
-    let list = c.as_slice.ensures ∙ (c.take_decorators-decorations.ensures.list ∙ (ap (λ b. decorations b c.as_slice-decorators.result.now marks k) walked ∙ ap (λ ds. decorations (taken m) ds marks k) all)) in
-    let rows = ap (λ b. decorator_assignments b c.as_slice-decorators.result.now marks k) walked ∙ ap (λ ds. decorator_assignments (taken m) ds marks k) all in
+    let out = c.is_replaced-replaced.ensures ∙ ap replaced c.parts-parts.ensures in
+    let are = c.as_slice-decorators.ensures ∙ ap (λ x. x.decorators) c.parts-parts.ensures in
+    let left = c.take_decorators-decorations.ensures.left in
+    let key : c.take_out-key.result ≡ hand_key marks 0 m = key_taken m marks next last _ _ _ walked out are left _ c.take_out-key.ensures.name in
+    let list = list_taken m marks next last _ _ _ walked out are left _ c.take_decorators-decorations.ensures.list in
+    let merged = c.merge_decorators.ensures ∙ ap merged (c.as_slice.ensures ∙ list) in
     record {
-      item = made_first m (seen_held c.take_key.new.slot) c.take_key.new.slot.key _ marks k
-          (ap seen_member c.take_key.ensures.member) c.take_key.ensures.key (c.merge_decorators.ensures ∙ ap merged list);
+      item = cc;
       held = refl;
-      rows = c.take_key.ensures.rows
-          ∙ (ap (λ xs. xs ++ key_assignments marks k m) (c.take_decorators-decorations.ensures.rows ∙ ap (λ xs. rows_of c.args.assignments.now ++ xs) rows)
-          ∙ append_assoc (rows_of c.args.assignments.now) (decorator_assignments (taken m) m.decorators marks k) (key_assignments marks k m));
-      few = omega (arith, c.take_decorators-decorations.ensures.few, ap length c.take_key.ensures.rows ∙ length-append _ (key_assignments marks k m), key_few marks k m);
+      rows = rows_taken m marks next last _ _ _ walked out are left _ _ _ _ (ap (λ x. x.key.text) c.parts-parts.ensures)
+          c.take_decorators-decorations.ensures.rows c.take_out-key.ensures.rows;
+      few = omega (arith, c.take_decorators-decorations.ensures.few, c.take_out-key.ensures.few);
+      left = left_taken m marks next last _ _ _ walked out are left c.take_out-key.ensures.left;
     }

@@ -1,63 +1,45 @@
-use Rattle.std.proofs.Common.{◌≡◌, ◌+◌, ◌<◌, ◌≤◌, length, count_by, refl, ap, ◌∙◌, arith}
-use Rattle.std.proofs.lemmas.List.{length-set, drop-set-lt}
-use Rattle.sheet.specs.Seen.{seen_parts}
-use Rattle.sheet.specs.Members.{seen_member}
-use Rattle.rules.specs.Draws.{starters_after, second_stems}
-use Rattle.rules.specs.Walks.{item_of, second_walk, number_after}
+use Rattle.std.proofs.Common.{◌+◌, ◌<◌, ◌≤◌, not, ◌&&◌, map, length, get_or, drop, set, count_by, sym, ap, ◌∙◌, arith}
+use Rattle.std.proofs.lemmas.List.{at_drop_all}
+use Rattle.rules.specs.Members.{accessor}
+use Rattle.rules.specs.Walks.{item_of}
+use Rattle.lowering.specs.Items.{members_of}
 use Rattle.lowering.specs.Rows.{rows_of}
-use Rattle.lowering.proofs.Turns.{written_more, written_all}
-use Rattle.lowering.proofs.Walked.{second_turn, written_read, is_accessor, numbers_more}
+use Rattle.lowering.specs.Tallies.{starters_over}
+use Rattle.lowering.proofs.Counts.{calls_over}
+use Rattle.lowering.proofs.Walked.{second_left, second_turn, written_front, written_back, numbers_more}
 use Rattle.lowering.proofs.walks.walk_second.Goals as goal
 
-pub make_second-requires : goal.make_second-requires
-make_second-requires c =
-    let rows = rows_of c.loop-i.members in
-    let i = c.loop-i.i in
-    let x = c.index_mut.result.now in
-    let within : i < length rows = omega (arith, c.loop-i-test.true, c.len-i-end.ensures, c.args.members.now.rows.ok.0, c.loop-i.invariant.1) in
-    let more = numbers_more c.loop-i.reached.number rows i x within c.index_mut.ensures.value in
-    (omega (arith, c.requires.at, c.loop-i.invariant.3, c.loop-i.members.few, c.loop-i.members.rows.ok.0), omega (arith, more, c.loop-i.invariant.2))
-
-pub reached_after-reached-requires : goal.reached_after-reached-requires
-reached_after-reached-requires c =
-    let rows = rows_of c.loop-i.members in
-    let i = c.loop-i.i in
-    let x = c.index_mut.result.now in
+pub loop-made-preserved : goal.loop-made-preserved
+loop-made-preserved c =
+    let xs = c.loop-made.made-items in
+    let i = c.loop-made.made-index in
+    let d = c.made-item.result in
+    let x = item_of (get_or xs i d) in
     let y = c.make_second.new.made in
-    let within : i < length rows = omega (arith, c.loop-i-test.true, c.len-i-end.ensures, c.args.members.now.rows.ok.0, c.loop-i.invariant.1) in
-    let more = numbers_more c.loop-i.reached.number rows i x within c.index_mut.ensures.value in
-    let same = written_read rows i y c.index.result.now within c.index.ensures in
-    let seen : seen_parts c.parts.result.now ≡ (item_of x).member = c.parts.ensures ∙ ap (λ h. seen_member h.member) (ap (λ z. z.held) same ∙ c.make_second.ensures.held) in
-    let number = ap (λ m. number_after m c.loop-i.reached.number) seen in
-    (omega (arith, c.requires.at, c.loop-i.invariant.3, c.loop-i.members.few, c.loop-i.members.rows.ok.0), omega (arith, more, number, c.loop-i.invariant.2))
+    let r = c.loop-made.reached in
+    let t = c.make_second.new.reached in
+    let marks = c.loop-made.names in
+    let next = c.make_second.new.names in
+    let made = c.make_second.ensures in
+    let inv = c.loop-made.invariant in
+    let within : i < length xs = omega (arith, c.loop-made-test.true, c.loop-made.auto.made-items) in
+    let front = written_front item_of xs i d y within in
+    let back = written_back item_of xs i d y within in
+    let members = ap members_of back in
+    let rest = members_of (map item_of (drop (i + 1) (set xs i y))) in
+    record {
+      items = second_turn marks next r.starters t.starters r.number t.number _ _ _ x (item_of y) _ _ front back
+          made.item made.starters made.number made.left inv.items;
+      starters = ap (λ s. starters_over s rest) made.starters ∙ (sym (ap (starters_over r.starters) members) ∙ inv.starters);
+      left = second_left i x.member _ _ marks next _ members r.starters t.starters made.starters made.left inv.left;
+      numbers = omega (arith, ap (count_by accessor) members, numbers_more r.number x.member rest, made.number, inv.numbers);
+    }
 
-pub loop-i-preserved : goal.loop-i-preserved
-loop-i-preserved c =
-    let rows = rows_of c.loop-i.members in
-    let i = c.loop-i.i in
-    let marks = c.args.marks.now in
-    let r = c.loop-i.reached in
-    let t = c.reached_after-reached.result in
-    let x = c.index_mut.result.now in
-    let y = c.make_second.new.made in
-    let within : i < length rows = omega (arith, c.loop-i-test.true, c.len-i-end.ensures, c.args.members.now.rows.ok.0, c.loop-i.invariant.1) in
-    let same = written_read rows i y c.index.result.now within c.index.ensures in
-    let seen : seen_parts c.parts.result.now ≡ (item_of x).member = c.parts.ensures ∙ ap (λ h. seen_member h.member) (ap (λ z. z.held) same ∙ c.make_second.ensures.held) in
-    let starters = c.reached_after-reached.ensures.starters ∙ ap (starters_after r.starters) seen in
-    let number = c.reached_after-reached.ensures.number ∙ ap (λ m. number_after m r.number) seen in
-    let place = c.reached_after-reached.ensures.at ∙ ap (λ m. r.at + length (second_stems r.starters m)) seen in
-    let more = numbers_more r.number rows i x within c.index_mut.ensures.value in
-    let rest = ap (count_by is_accessor) (drop-set-lt (i + 1) rows i y (omega arith)) in (
-      written_more item_of (second_walk r.starters r.number marks r.at) (second_walk t.starters t.number marks t.at) rows i x y _ within c.index_mut.ensures.value
-          (second_turn r.starters t.starters r.number t.number r.at t.at marks (item_of x) (item_of y) c.make_second.ensures.item starters number place) c.loop-i.invariant.0,
-      length-set rows i y ∙ c.loop-i.invariant.1,
-      omega (arith, more, rest, number, c.loop-i.invariant.2),
-      omega (arith, c.reached_after-reached.ensures.few, c.loop-i.invariant.3),
-    )
-
-pub returns : goal.returns
-returns c =
-    let rows = rows_of c.loop-i.members in
-    let r = c.loop-i.reached in
-    let all : length rows ≤ c.loop-i.i = omega (arith, c.loop-i-test.false, c.len-i-end.ensures, c.args.members.now.rows.ok.0, c.loop-i.invariant.1) in
-    written_all item_of (second_walk r.starters r.number c.args.marks.now r.at) rows c.loop-i.i _ all refl c.loop-i.invariant.0
+pub returns-clause-calls : goal.returns-clause-calls
+returns-clause-calls c =
+    let xs = c.loop-made.made-items in
+    let s = c.loop-made.reached.starters in
+    let done : length xs ≤ c.loop-made.made-index = omega (arith, c.loop-made-test.false, c.loop-made.auto.made-items) in
+    let none = at_drop_all (λ zs. starters_over s (members_of (map item_of zs))) xs c.loop-made.made-index done in
+    let all = calls_over (members_of (map item_of (rows_of c.args.members.now))) in
+    c.is_call_left.ensures ∙ (ap (λ t. t.instance && not t.called) (sym none ∙ c.loop-made.invariant.starters) ∙ all)
