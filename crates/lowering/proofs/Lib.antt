@@ -6,6 +6,7 @@ pub mod Grouped
 pub mod Handed
 pub mod Kept
 pub mod Left
+pub mod Decorated
 pub mod Named
 pub mod Rooms
 pub mod Seconds

@@ -73,7 +73,7 @@ impl From<LowerFault> for Numbered {
     fn from(fault: LowerFault) -> Numbered {
         match fault {
             LowerFault::Members(fault) => Numbered::from(fault),
-            LowerFault::Marks(fault) => fault.numbered(),
+            LowerFault::Marks(fault) => Numbered::from(fault),
         }
     }
 }

@@ -2,7 +2,7 @@
 ghost use Rattle.std.specs.Prelude.{◌≡◌, ◌&&◌, is_some};
 ghost use Rattle.pieces.specs.declared.codes.Shape.{Shape};
 ghost use Rattle.sheet.specs.Seen.{seen_parts};
-ghost use Rattle.rules.specs.Members.{non_empty, treatment, is_non_field, accessor, built, of_constructor, taken, taken_out, replaced, text_of};
+ghost use Rattle.rules.specs.Members.{treatment, is_non_field, accessor, built, of_constructor, taken, taken_out, replaced, text_of};
 
 use formats::Place;
 use pieces::codes::{KeyKind, Kind, Shape};
@@ -10,17 +10,12 @@ use pieces::parts::{Body, Decorator};
 use rules::Treatment;
 use sheet::Parts;
 
-pub(crate) fn is_decorated(parts: &Parts) -> bool
-    ensures { result ≡ non_empty (seen_parts parts.now).decorators }
-{
-    !parts.decorators.as_slice().is_empty()
-}
-
 /// What the walks do with the member.
+#[tactic(auto, using(crate::proofs::Decorated::has_any))]
 pub(crate) fn treatment_of(parts: &Parts) -> Treatment
     ensures { result ≡ treatment (seen_parts parts.now) }
 {
-    let decorated = is_decorated(parts);
+    let decorated = parts.is_decorated();
     let private = parts.flags.is_private;
     match parts.kind {
         Kind::Field if decorated => Treatment::DecoratedField(private),

@@ -98,11 +98,7 @@ fn take_decorators(
     ensures few { length (rows_of assignments.new) ≤ length (rows_of assignments.old) + 8 }
     ensures left { names.new ≡ after (filter (taken_out walked) decorators.now) names.old }
 {
-    let nowhere = Place {
-        start: 0,
-        length: 0,
-    };
-    let mut list = Bounded::new(Decoration::Written(nowhere));
+    let mut list = Bounded::new(Decoration::Written(Place::default()));
     for decorator in decorators {
         list.append(take_decorator(walked, *decorator, names, assignments));
     }

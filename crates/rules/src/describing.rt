@@ -91,15 +91,7 @@ impl From<Code> for u8 {
     ghost from_gives = { λ code number. number ≡ code_number code };
 
     fn from(code: Code) -> u8 {
-        let kind = match code.kind {
-            Kind::Field => 0,
-            Kind::Accessor => 1,
-            Kind::Method => 2,
-            Kind::Getter => 3,
-            Kind::Setter => 4,
-            Kind::Constructor => 5,
-            Kind::Other => 6,
-        };
+        let kind = u8::from(code.kind);
         if code.is_static { kind + 5 } else { kind }
     }
 }
