@@ -3,9 +3,11 @@ ghost use Rattle.std.specs.Prelude.{◌≡◌, ◌+◌, ◌≤◌, not, ◌&&◌
 ghost use Rattle.sheet.specs.Seen.{seen_parts};
 ghost use Rattle.rules.specs.Draws.{due, starters_after, expressions, first_stems, second_stems, third_stems, draws};
 ghost use Rattle.lowering.specs.Hands.{seen_hand};
+ghost use Rattle.lowering.specs.Rows.{rows_of};
 ghost use Rattle.lowering.specs.Tallies.{tally_after, total_of};
 
 use crate::members::{is_built, is_replaced, is_taken, is_taken_out, treatment_of};
+use crate::tables::Table;
 use rules::{Held, Starters, Treatment};
 use sheet::Parts;
 
@@ -133,9 +135,8 @@ fn total_of(tally: Tally, derived: bool) -> usize
 }
 
 /// How many names the class draws.
-pub(crate) fn count_draws(hand: &[Held], derived: bool) -> usize
-    requires { length hand.now ≤ 64 }
-    ensures is { result ≡ length (draws derived (seen_hand hand.now)) }
+pub(crate) fn count_draws(hand: &Table<Held, 64>, derived: bool) -> usize
+    ensures is { result ≡ length (draws derived (seen_hand (rows_of hand.now))) }
     ensures few { result ≤ 1089 }
 {
     let mut tally = Tally {
@@ -143,7 +144,8 @@ pub(crate) fn count_draws(hand: &[Held], derived: bool) -> usize
         starters: NO_STARTERS,
         built: false,
     };
-    for held in hand {
+    let members = hand.as_slice();
+    for held in members {
         tally = tally_after(tally, held.member.parts());
     }
     total_of(tally, derived)

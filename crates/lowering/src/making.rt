@@ -1,4 +1,7 @@
 //! What a member is made into, with the names that are left.
+//!
+//! The parts of the member and the names stay two parameters: a struct of both would be a `&` and a `&mut`, and each function would
+//! also have to promise that they are still the same two.
 ghost use Rattle.std.specs.Prelude.{◌≡◌, ◌≤◌, [], ◌∷◌, cond};
 ghost use Rattle.sheet.specs.Seen.{seen_parts};
 ghost use Rattle.rules.specs.Members.{treatment, replaced};

@@ -59,8 +59,13 @@ impl<S: Marks> Run<S> {
         let mut marks = [0; MOST_MARKS];
         let mut numbers = self.numbers;
         let before = numbers.last();
-        let hand = self.hand.as_slice();
-        let supplied = supply(hand, derived, &mut self.source, &mut numbers, &mut marks);
+        let supplied = supply(
+            &self.hand,
+            derived,
+            &mut self.source,
+            &mut numbers,
+            &mut marks,
+        );
         self.numbers = numbers;
         let total = supplied?;
         out.fill(&mut self.hand, before, derived, &marks[0..total]);

@@ -15,7 +15,8 @@ impl<T, const N: usize> Table<T, N> {
         Ok(Table { rows })
     }
 
-    /// Appends a row, for which there is room.
+    /// Appends a row, for which there is room. How much room is left is for each caller to know, since all of them append another
+    /// number of rows, and none may ask for memory.
     pub(crate) fn push(&mut self, row: T)
         requires { length (rows_of self.old) < N }
         ensures { rows_of self.new ≡ rows_of self.old ++ row ∷ [] }
