@@ -20,7 +20,8 @@ descriptors_few is =
     omega (arith, ap length all ∙ length-map (in_order (λ i. i.member) is) describe, in_order_few is)
 
 -- Where the groups before this one are described, the table has room for this one.
-pub room_for_group : (is : List Item) (i : ℕ) (d : Group) (rows : List Descriptor) → i < 4 → map described_of rows ≡ flat_map (descriptors_of is) (take i all_groups) →
+pub room_for_group : (is : List Item) (i : ℕ) (d : Group) (rows : List Descriptor) → i < 4 →
+    map described_of rows ≡ flat_map (descriptors_of is) (take i all_groups) →
     length rows + length (filter (grouped (get_or all_groups i d)) is) ≤ length is
 room_for_group is i d rows within so_far =
     let long = simp length-map at (ap length so_far) in

@@ -11,4 +11,6 @@ and_true false b d h f = h
 -- one member more, with its key as it has it
 pub written_push : (hs : List Held) (m : Member) → all_written hs ≡ true → all_written (hs ++ record { member = m; key = None } ∷ []) ≡ true
 written_push [] m all = refl
-written_push (h ∷ hs) m all = and_true (is_written h.key) (all_written hs) (all_written (hs ++ record { member = m; key = None } ∷ [])) all (λ rest. written_push hs m rest)
+written_push (h ∷ hs) m all =
+    let more = hs ++ record { member = m; key = None } ∷ [] in
+    and_true (is_written h.key) (all_written hs) (all_written more) all (λ rest. written_push hs m rest)

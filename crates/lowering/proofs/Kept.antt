@@ -7,7 +7,8 @@ use Rattle.std.proofs.lemmas.List.Concat.{flat_map-append}
 use Rattle.std.proofs.lemmas.List.Elements.{filter-append}
 
 -- x stands at i among xs, and passes
-module _ {X Z : Type 0} (v : X → Z) (p : Z → Bool) (xs : List X) (i : ℕ) (x : X) (within : i < length xs) (is : x ≡ get_or xs i x) (passed : p (v x) ≡ true) where
+module _ {X Z : Type 0} (v : X → Z) (p : Z → Bool) (xs : List X) (i : ℕ) (x : X)
+    (within : i < length xs) (is : x ≡ get_or xs i x) (passed : p (v x) ≡ true) where
   kept_split : filter p (map v xs) ≡ filter p (map v (take i xs)) ++ v x ∷ filter p (map v (drop (suc i) xs))
   kept_split =
       let all = split_at xs i x within ∙ ap (λ y. take i xs ++ y ∷ drop (suc i) xs) (sym is) in
@@ -16,5 +17,6 @@ module _ {X Z : Type 0} (v : X → Z) (p : Z → Bool) (xs : List X) (i : ℕ) (
   pub kept_room : length (filter p (map v (take i xs))) < length (filter p (map v xs))
   kept_room = omega (arith, simp length-append at (ap length kept_split))
 
-  pub put_room : {Y : Type 0} (f : Z → List Y) → length (flat_map f (filter p (map v (take i xs)))) + length (f (v x)) ≤ length (flat_map f (filter p (map v xs)))
+  pub put_room : {Y : Type 0} (f : Z → List Y) →
+      length (flat_map f (filter p (map v (take i xs)))) + length (f (v x)) ≤ length (flat_map f (filter p (map v xs)))
   put_room f = omega (arith, simp (flat_map-append, length-append) at (ap (λ ys. length (flat_map f ys)) kept_split))

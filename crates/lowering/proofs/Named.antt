@@ -46,7 +46,8 @@ names_all_few is = omega (arith, ap length (names_all is), item_names_few (in_or
 -- Where the groups before this one have put their names, there is room for those of this one.
 pub room_for_names : (is : List Item) (i : ℕ) (d : Group) (rows : List Name) → i < 4 → rows ≡ flat_map (names_in is) (take i all_groups) →
     length rows + length (names_in is (get_or all_groups i d)) ≤ 3 * length is
-room_for_names is i d rows within so_far = omega (arith, ap length so_far, length-flat_map-take (names_in is) all_groups i d within, names_all_few is)
+room_for_names is i d rows within so_far =
+    omega (arith, ap length so_far, length-flat_map-take (names_in is) all_groups i d within, names_all_few is)
 
 -- A form has names of one walk alone.
 second_or_third : (form : MadeForm) → cond (not (third form)) (second_names form ++ third_names form) [] ≡ second_names form
@@ -64,15 +65,16 @@ third_or_second (StoredDecorated storage init starts parameter access) = refl
 third_or_second (Called name) = refl
 
 -- Where what passes has the names f, and what does not has none of them, the names of those that pass are the names f.
-names_of_kept : (p : Item → Bool) (f : Item → List Name) → ((i : Item) → cond (p i) (item_names i) [] ≡ f i) → (is : List Item) → flat_map item_names (filter p is) ≡ flat_map f is
+names_of_kept : (p : Item → Bool) (f : Item → List Name) → ((i : Item) → cond (p i) (item_names i) [] ≡ f i) →
+    (is : List Item) → flat_map item_names (filter p is) ≡ flat_map f is
 names_of_kept p f same [] = refl
 names_of_kept p f same (i ∷ is) =
     let rest = names_of_kept p f same is in
-    let here = same i in
-    elim (p i) as (λ b. cond b (item_names i) [] ≡ f i → flat_map item_names (cond b (i ∷ filter p is) (filter p is)) ≡ f i ++ flat_map f is) [
+    let kept = filter p is in
+    elim (p i) as (λ b. cond b (item_names i) [] ≡ f i → flat_map item_names (cond b (i ∷ kept) kept) ≡ f i ++ flat_map f is) [
       | true ↦ λ e. rw (e, rest)
       | false ↦ λ e. rw (← e) rest
-    ] here
+    ] (same i)
 
 pub names_of_second : (is : List Item) → flat_map item_names (filter (wanted Second) is) ≡ flat_map (λ i. second_names i.form) is
 names_of_second is = names_of_kept (wanted Second) (λ i. second_names i.form) (λ i. second_or_third i.form) is
@@ -81,10 +83,12 @@ pub names_of_third : (is : List Item) → flat_map item_names (filter (wanted Th
 names_of_third is = names_of_kept (wanted Third) (λ i. third_names i.form) (λ i. third_or_second i.form) is
 
 -- the names of both walks
-pub both_few : (is : List Item) → length (flat_map item_names (filter (wanted Second) is)) + length (flat_map item_names (filter (wanted Third) is)) ≤ 3 * length is
+pub both_few : (is : List Item) →
+    length (flat_map item_names (filter (wanted Second) is)) + length (flat_map item_names (filter (wanted Third) is)) ≤ 3 * length is
 both_few is = omega (arith, ap length (names_of_second is), ap length (names_of_third is), forms_few is)
   where
-    forms_few : (is : List Item) → length (flat_map (λ i. second_names i.form) is) + length (flat_map (λ i. third_names i.form) is) ≤ 3 * length is
+    forms_few : (is : List Item) →
+        length (flat_map (λ i. second_names i.form) is) + length (flat_map (λ i. third_names i.form) is) ≤ 3 * length is
     forms_few [] = omega arith
     forms_few (i ∷ is) =
         omega (
@@ -112,12 +116,15 @@ starting half m = grouped (group half true) (item_of m)
 found : (half : Bool) (xs : List Made) → starter_of half (map item_of xs) ≡ option_and_then (λ m. m.starter) (find (starting half) xs)
 found half [] = refl
 found half (x ∷ xs) =
-    elim (starting half x) as (λ b. cond b x.starter (starter_of half (map item_of xs)) ≡ option_and_then (λ m. m.starter) (cond b (Some x) (find (starting half) xs))) [
+    let starter = option_and_then (λ (m : Made). m.starter) in
+    let rest = find (starting half) xs in
+    elim (starting half x) as (λ b. cond b x.starter (starter_of half (map item_of xs)) ≡ starter (cond b (Some x) rest)) [
       | true ↦ refl
       | false ↦ found half xs
     ]
 
 -- the first of a half's decorated non-fields has its starter
-pub starter_found : (half : Bool) (xs ys : List Made) (first o : Option (Bor Made)) → ys ≡ xs → option_map (λ y. y.now) first ≡ find (starting half) ys → first ≡ o →
+pub starter_found : (half : Bool) (xs ys : List Made) (first o : Option (Bor Made)) → ys ≡ xs →
+    option_map (λ y. y.now) first ≡ find (starting half) ys → first ≡ o →
     option_and_then (λ m. m.starter) (option_map (λ y. y.now) o) ≡ starter_of half (map item_of xs)
 starter_found half xs ys first o same is what = rw (← same, ← what, is) (sym (found half ys))

@@ -75,7 +75,8 @@ fn describe_one(made: &Made) -> Descriptor
 /// Appends the descriptors of one group, in written order.
 fn describe_group(members: &Table<Made, 64>, group: Group, descriptors: &mut Table<Descriptor, 64>)
     requires { length (rows_of descriptors.old) + length (filter (grouped group) (map item_of (rows_of members.now))) ≤ 64 }
-    ensures { map described_of (rows_of descriptors.new) ≡ map described_of (rows_of descriptors.old) ++ map describe (filter (grouped group) (map item_of (rows_of members.now))) }
+    ensures { map described_of (rows_of descriptors.new)
+        ≡ map described_of (rows_of descriptors.old) ++ map describe (filter (grouped group) (map item_of (rows_of members.now))) }
 {
     for made in members.as_slice() {
         if group.has(made) {

@@ -87,7 +87,9 @@ fn put_assigned<const N: usize>(assignments: &[Assignment], names: &mut Table<Na
 
 /// Fills the table with the names of all descriptors' results, in the order of the descriptors, and the starters.
 pub(crate) fn name_all(members: &Table<Made, 64>, frame: Frame, names: &mut Table<Name, MOST_NAMES>)
-    ensures { rows_of names.new ≡ flat_map item_names (in_order (λ i. i.member) (map item_of (rows_of members.now))) ++ (option_to_list frame.instance_starter ++ option_to_list frame.static_starter) }
+    ensures { rows_of names.new
+        ≡ flat_map item_names (in_order (λ i. i.member) (map item_of (rows_of members.now)))
+        ++ (option_to_list frame.instance_starter ++ option_to_list frame.static_starter) }
 {
     names.clear();
     for group in GROUPS {
@@ -103,7 +105,11 @@ pub(crate) fn declare_all(
     frame: Frame,
     variables: &mut Table<Name, MOST_VARIABLES>,
 )
-    ensures { rows_of variables.new ≡ map (λ a. a.name) (rows_of assignments.now) ++ (flat_map (λ i. second_names i.form) (map item_of (rows_of members.now)) ++ (flat_map (λ i. third_names i.form) (map item_of (rows_of members.now)) ++ (option_to_list frame.instance_starter ++ option_to_list frame.static_starter))) }
+    ensures { rows_of variables.new
+        ≡ map (λ a. a.name) (rows_of assignments.now)
+        ++ (flat_map (λ i. second_names i.form) (map item_of (rows_of members.now))
+        ++ (flat_map (λ i. third_names i.form) (map item_of (rows_of members.now))
+        ++ (option_to_list frame.instance_starter ++ option_to_list frame.static_starter))) }
 {
     variables.clear();
     put_assigned(assignments.as_slice(), variables);

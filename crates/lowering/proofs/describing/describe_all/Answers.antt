@@ -9,5 +9,7 @@ use Rattle.lowering.proofs.describing.describe_all.Goals as goal
 pub describe_group-requires : goal.describe_group-requires
 describe_group-requires c =
     let members = c.args.members.now in
-    let room = room_for_group (map item_of (rows_of members)) c.loop-group.group-index (group false false) (rows_of c.loop-group.descriptors) c.loop-group-test.true c.loop-group.invariant in
+    let loop = c.loop-group in
+    let room = room_for_group (map item_of (rows_of members)) loop.group-index (group false false) (rows_of loop.descriptors)
+    c.loop-group-test.true loop.invariant in
     omega (arith, room, members_few members)

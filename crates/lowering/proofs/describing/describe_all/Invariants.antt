@@ -9,4 +9,5 @@ use Rattle.lowering.proofs.describing.describe_all.Given as goal
 -- the groups before this one are described
 abbrev pub invariant-loop-group : goal.invariant-loop-group
 invariant-loop-group l =
-    map described_of (rows_of l.descriptors) ≡ flat_map (descriptors_of (map item_of (rows_of l.members))) (take l.group-index l.group-items)
+    let is = map item_of (rows_of l.members) in
+    map described_of (rows_of l.descriptors) ≡ flat_map (descriptors_of is) (take l.group-index l.group-items)

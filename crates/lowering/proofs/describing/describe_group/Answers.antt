@@ -9,7 +9,8 @@ pub push-requires : goal.push-requires
 push-requires c =
     let group = grouped c.args.group in
     let members = c.as_slice-made-items in
-    let room = kept_room item_of group members.result.now c.loop-made.made-index c.made-item.result c.loop-made-test.true c.made-item.is (sym c.if-has.ensures) in
+    let room = kept_room item_of group members.result.now c.loop-made.made-index c.made-item.result
+    c.loop-made-test.true c.made-item.is (sym c.if-has.ensures) in
     let so_far = simp (length-append, length-map) at (ap length c.loop-made.invariant) in
     let all = ap (λ xs. length (filter group (map item_of xs))) members.ensures in
     (lit< tt, omega (arith, room, so_far, all, c.requires))

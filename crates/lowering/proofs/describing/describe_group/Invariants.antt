@@ -8,5 +8,6 @@ use Rattle.lowering.proofs.describing.describe_group.Given as goal
 -- the members before this one are described
 abbrev pub invariant-loop-made : goal.invariant-loop-made
 invariant-loop-made l =
+    let before = map item_of (take l.made-index l.made-items) in
     map described_of (rows_of l.descriptors)
-    ≡ map described_of (rows_of l.initial.descriptors) ++ map describe (filter (grouped l.group) (map item_of (take l.made-index l.made-items)))
+    ≡ map described_of (rows_of l.initial.descriptors) ++ map describe (filter (grouped l.group) before)

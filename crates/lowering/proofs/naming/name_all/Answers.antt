@@ -11,7 +11,9 @@ use Rattle.lowering.proofs.naming.name_all.Goals as goal
 pub put_all-requires : goal.put_all-requires
 put_all-requires c =
     let members = c.args.members.now in
-    let room = room_for_names (map item_of (rows_of members)) c.loop-group.group-index (group false false) (rows_of c.loop-group.names) c.loop-group-test.true c.loop-group.invariant in
+    let loop = c.loop-group in
+    let room = room_for_names (map item_of (rows_of members)) loop.group-index (group false false) (rows_of loop.names)
+    c.loop-group-test.true loop.invariant in
     (lit< tt, omega (arith, room, members_few members))
 
 pub push_present-requires : goal.push_present-requires
