@@ -59,23 +59,28 @@ pub filter_turn : {X : Type 0} (p : X → Bool) (x : X) (rest : List X) → filt
 filter_turn p x rest =
     elim (p x) as (λ b. cond b (x ∷ filter p rest) (filter p rest) ≡ if_so b (x ∷ []) ++ filter p rest) [ true ↦ refl | false ↦ refl ]
 
--- Walk 1 over m: its decorators ds, and then its key.
-module _ (m : Seen) (marks next last : List ℕ) (walked out : Bool) (ds : List Decorator) (is_walked : walked ≡ taken m)
-    (is_out : out ≡ replaced m) (are : ds ≡ m.decorators) (drawn : next ≡ after (filter (taken_out walked) ds) marks) where
+-- walk 1 over m: its decorators ds are taken out, and its key is, or not
+pub record Took (m : Seen) (marks next : List ℕ) (walked out : Bool) (ds : List Decorator) : Type 0 where
+  pub is_walked : walked ≡ taken m
+  pub is_out : out ≡ replaced m
+  pub are : ds ≡ m.decorators
+  pub drawn : next ≡ after (filter (taken_out walked) ds) marks
+
+module _ {m : Seen} {marks next : List ℕ} {walked out : Bool} {ds : List Decorator} (t : Took m marks next walked out ds) where
   abbrev out_of_m : List Decorator
   out_of_m = filter (taken_out (taken m)) m.decorators
 
   same_next : next ≡ after out_of_m marks
-  same_next = rw (← is_walked, ← are) drawn
+  same_next = rw (← t.is_walked, ← t.are) t.drawn
 
   key_is : named ComputedKey next 0 ≡ key_name marks 0 m
   key_is = ap (λ zs. named ComputedKey zs 0) same_next ∙ sym (at_after (named ComputedKey) (named_on ComputedKey) out_of_m marks)
 
   pub key_taken : (key : Option Name) → key ≡ some_if out (named ComputedKey next 0) → key ≡ some_if (replaced m) (key_name marks 0 m)
-  key_taken key is = is ∙ (ap (λ b. some_if b (named ComputedKey next 0)) is_out ∙ ap (some_if (replaced m)) key_is)
+  key_taken key is = is ∙ (ap (λ b. some_if b (named ComputedKey next 0)) t.is_out ∙ ap (some_if (replaced m)) key_is)
 
   pub list_taken : (list : List Decoration) → list ≡ decorations walked ds marks 0 → list ≡ decorations (taken m) m.decorators marks 0
-  list_taken list is = rw (← is_walked, ← are) is
+  list_taken list is = rw (← t.is_walked, ← t.are) is
 
   pub rows_taken : (rows more all : List Assignment) (text : Place) →
       text ≡ m.key.text → more ≡ rows ++ decorator_assignments walked ds marks 0 →
@@ -85,8 +90,8 @@ module _ (m : Seen) (marks next last : List ℕ) (walked out : Bool) (ds : List 
       let together = append_assoc rows (decorator_assignments (taken m) m.decorators marks 0) (key_assignments marks 0 m) in
       cc
 
-  pub left_taken : last ≡ after (if_so out (ComputedKey ∷ [])) next → last ≡ after (first_stems m) marks
-  left_taken is =
+  pub left_taken : (last : List ℕ) → last ≡ after (if_so out (ComputedKey ∷ [])) next → last ≡ after (first_stems m) marks
+  left_taken last is =
       let both = after_append (map (λ d. Dec) out_of_m) (if_so (replaced m) (ComputedKey ∷ [])) marks in
       let each = after_map (λ d. Dec) out_of_m marks in
       let same = same_next in

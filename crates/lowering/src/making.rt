@@ -60,7 +60,7 @@ fn access_of(private: bool, parts: &Parts, names: &mut Names<'_>) -> Option<Acce
     ensures is { result ≡ access private (seen_parts parts.now) names.old 0 }
     ensures left { names.new ≡ after (access_stems private (seen_parts parts.now)) names.old }
 {
-    // no `private.then(..)`, for the reason that stands at `Names::next_if`
+    // not `private.then(..)`, for the reason that stands in `Names::next_if`
     if !private {
         return None;
     }

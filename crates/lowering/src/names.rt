@@ -49,7 +49,7 @@ impl<'m> Names<'m> {
         ensures name { result ≡ some_if wanted (named stem self.old 0) }
         ensures left { self.new ≡ after (if_so wanted (stem ∷ [])) self.old }
     {
-        // no `wanted.then(..)`, whose clauses do not say what the closure leaves behind the `&mut`
+        // not `wanted.then(..)`, whose clauses do not say what the closure leaves behind the `&mut`
         if wanted { Some(self.next(stem)) } else { None }
     }
 }

@@ -14,8 +14,7 @@ use crate::tables::Table;
 use marks::{Marks, draw_into};
 use rules::Held;
 
-/// Whether the class is derived comes with each call, and its members lie in the run, so that no struct holds both.
-///
+// `hand` and `derived` stay two parameters: walk 1 writes into the hand, so that only the counts and the checks would take a struct.
 /// Checks the members, raises the storage number by their accessors, and draws the marks of the class into the first places of
 /// `marks`; it answers how many these are. Refused, it leaves the storage number as it was.
 #[tactic(auto, using(crate::proofs::Checking::numbers_fit))]

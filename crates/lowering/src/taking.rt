@@ -37,10 +37,8 @@ pub(crate) fn merge_decorators(decorations: &[Decoration]) -> Decorators
     }
 }
 
+// `names` and `assignments` stay two parameters: with a struct of two `&mut` each function would also promise that they are the same.
 /// Takes out a text that is evaluated ahead of the class, if it is one: it is assigned to the next name.
-///
-/// Here and below the names and the assignments stay two parameters. In a struct of two `&mut`, each function would also have to
-/// promise that these are still the same two.
 fn take_out(
     wanted: bool,
     stem: Stem,
