@@ -22,12 +22,12 @@ pub(crate) fn walk_first(
     assignments: &mut Table<Assignment, MOST_ASSIGNMENTS>,
     members: &mut Table<Made, 64>,
 )
-    requires assignments { rows_of assignments.old ≡ [] }
-    requires members { rows_of members.old ≡ [] }
     ensures items { map item_of (rows_of members.new) ≡ first_walk names.old 0 (seen_hand (rows_of hand.old)) }
     ensures rows { rows_of assignments.new ≡ assignments_from names.old 0 (seen_hand (rows_of hand.old)) }
     ensures left { names.new ≡ after (for_each first_stems 0 (seen_hand (rows_of hand.old))) names.old }
 {
+    assignments.clear();
+    members.clear();
     for slot in hand.rows.iter_mut() {
         members.push(take_first(slot, names, assignments));
     }

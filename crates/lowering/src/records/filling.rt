@@ -66,7 +66,7 @@ impl Record {
         self.frame = frame;
     }
 
-    /// Fills the empty record with what the rules make of the members in hand, with the marks that were drawn for them.
+    /// Fills the record with what the rules make of the members in hand, with the marks that were drawn for them.
     pub(crate) fn fill(
         &mut self,
         hand: &mut Table<Held, 64>,
@@ -74,8 +74,7 @@ impl Record {
         derived: bool,
         marks: &[u16],
     )
-        requires empty { record_of self.old ≡ empty_record }
-        requires numbers { number + count_by accessor (seen_hand (rows_of hand.old)) ≤ 65535 }
+        requires { number + count_by accessor (seen_hand (rows_of hand.old)) ≤ 65535 }
         ensures { record_of self.new ≡ lowered (seen_hand (rows_of hand.old)) derived number marks.now }
     {
         let mut names = Names::of(marks);

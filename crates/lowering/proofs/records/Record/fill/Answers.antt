@@ -13,7 +13,7 @@ use Rattle.lowering.proofs.records.Record.fill.Goals as goal
 pub walk_second-calls-requires : goal.walk_second-calls-requires
 walk_second-calls-requires c =
     let members = ap members_of c.walk_first.ensures.items ∙ first_members c.of-names.result 0 (seen_hand (rows_of c.args.hand.now)) in
-    omega (arith, ap (count_by accessor) members, c.requires.numbers)
+    omega (arith, ap (count_by accessor) members, c.requires)
 
 pub construct-constructor-requires : goal.construct-constructor-requires
 construct-constructor-requires c =
