@@ -1,13 +1,14 @@
 //! Reading a sheet field after field.
 ghost use Rattle.std.specs.Prelude.{◌≡◌, length, take, nat_le};
 ghost use Rattle.formats.specs.Reading.{end};
-ghost use Rattle.formats.specs.Cursors.{bytes_in, with_next, byte_and_next, text_and_next, placed};
+ghost use Rattle.formats.specs.Cursors.{bytes_in, ReadsBy, byte_and_next, text_and_next, placed};
 
 use super::{Place, ReadFault, Sheet};
 
-/// A text of a sheet: its bytes, and where they lie.
+/// A text of a sheet: where its length stands, its bytes, and where they lie.
 #[derive(Clone, Copy)]
 pub struct Text<'s> {
+    pub at: usize,
     pub bytes: &'s [u8],
     pub place: Place,
 }
@@ -48,8 +49,7 @@ impl<'s> Cursor<'s> {
 
     /// The next byte.
     pub fn byte(&mut self) -> Result<u8, ReadFault>
-        ensures byte { with_next result self.new.at ≡ byte_and_next (bytes_in self.old) self.old.at }
-        ensures sheet { self.new.sheet ≡ self.old.sheet }
+        ensures { ReadsBy byte_and_next self.old result self.new }
     {
         let byte = self.sheet.byte(self.at)?;
         self.at += 1;
@@ -58,12 +58,12 @@ impl<'s> Cursor<'s> {
 
     /// The next text, behind its length.
     pub fn text(&mut self) -> Result<Text<'s>, ReadFault>
-        ensures text { with_next (placed result) self.new.at ≡ text_and_next (bytes_in self.old) self.old.at }
-        ensures sheet { self.new.sheet ≡ self.old.sheet }
+        ensures { ReadsBy text_and_next self.old (placed result) self.new }
     {
-        let place = self.sheet.text(self.at)?;
+        let at = self.at;
+        let place = self.sheet.text(at)?;
         self.at = place.end();
         let bytes = self.sheet.part(place);
-        Ok(Text { bytes, place })
+        Ok(Text { at, bytes, place })
     }
 }

@@ -18,6 +18,10 @@ abbrev pub counted : {X : Type 0} → ℕ → Reader X → List ℕ → Reader (
 counted most read s at =
     then (byte_at s at) (λ n. cond (nat_le n most) (items read n [] (at + 1)) (Err (Unknown at)))
 
+-- the list of `s` at an offset
+abbrev pub list_at : {X : Type 0} → ℕ → (List ℕ → Reader X) → List ℕ → Reader (List X)
+list_at most reads s = counted most (reads s) s
+
 -- what was read, as a list
 abbrev pub shown : {X E : Type 0} {N : ℕ} → Result (Bounded X N) E → Result (List X) E
 shown (Ok b) = Ok (listed b)

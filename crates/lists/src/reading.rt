@@ -1,7 +1,7 @@
 //! A list as a sheet has it.
 ghost use Rattle.std.specs.Prelude.{◌≡◌, ℕ, List};
-ghost use Rattle.formats.specs.Cursors.{bytes_in, with_next};
-ghost use Rattle.lists.specs.Listed.{Reader, counted, shown};
+ghost use Rattle.formats.specs.Cursors.{ReadsBy};
+ghost use Rattle.lists.specs.Listed.{Reader, list_at, shown};
 
 use super::Bounded;
 use formats::{Cursor, ReadFault};
@@ -12,16 +12,14 @@ pub trait Item: Copy + Default {
 
     /// The next item.
     fn read(cursor: &mut Cursor<'_>) -> Result<Self, ReadFault>
-        ensures item { with_next result cursor.new.at ≡ reads (bytes_in cursor.old) cursor.old.at }
-        ensures sheet { cursor.new.sheet ≡ cursor.old.sheet };
+        ensures { ReadsBy reads cursor.old result cursor.new };
 }
 
 /// The next list. A count over `N` is refused.
 pub fn read_list<T: Item, const N: usize>(
     cursor: &mut Cursor<'_>,
 ) -> Result<Bounded<T, N>, ReadFault>
-    ensures list { with_next (shown result) cursor.new.at ≡ counted N (T.Item.reads (bytes_in cursor.old)) (bytes_in cursor.old) cursor.old.at }
-    ensures sheet { cursor.new.sheet ≡ cursor.old.sheet }
+    ensures { ReadsBy (list_at N T.Item.reads) cursor.old (shown result) cursor.new }
 {
     let at = cursor.at;
     let count = usize::from(cursor.byte()?);

@@ -3,7 +3,6 @@ use Rattle.std.specs.Prelude.{ℕ, Bool, false, cond, not, ◌&&◌, ◌||◌, L
 use Rattle.formats.specs.declared.Place.{Place}
 use Rattle.formats.specs.declared.ReadFault.{ReadFault}
 use Rattle.formats.specs.declared.ReadFault.TheVariants.{NoName}
-use Rattle.formats.specs.Cursors.{Placed}
 use Rattle.formats.specs.Names.{is_name}
 use Rattle.formats.specs.Readers.{then}
 use Rattle.formats.specs.Reading.{text_at, bytes_at}
@@ -45,8 +44,12 @@ bytes_in (decorator shape bytes place) = bytes
 bytes_in (parameter form bytes place) = bytes
 bytes_in (body bytes place) = bytes
 
-abbrev pub text_in : Part → Placed
-text_in p = record { bytes = bytes_in p; place = place_of p }
+-- where the length of its text stands
+abbrev pub at_of : Piece → ℕ
+at_of (Key of kind text) = text.at
+at_of (Decorator shape text) = text.at
+at_of (Parameter form text) = text.at
+at_of (Body text) = text.at
 
 -- identifiers, computed or not, are names; but constructors and others have no key to be named by
 abbrev pub names_key : Kind → KeyKind → Bool

@@ -97,15 +97,7 @@ impl From<Kind> for u8 {
     ghost from_gives = { λ kind code. code ≡ kind_code kind };
 
     fn from(kind: Kind) -> u8 {
-        match kind {
-            Kind::Field => 0,
-            Kind::Accessor => 1,
-            Kind::Method => 2,
-            Kind::Getter => 3,
-            Kind::Setter => 4,
-            Kind::Constructor => 5,
-            Kind::Other => 6,
-        }
+        kind as u8
     }
 }
 
@@ -155,6 +147,20 @@ impl TryFrom<u8> for Form {
     }
 }
 
+// The values of the flags.
+
+const STATIC: u8 = 1;
+
+const PRIVATE: u8 = 2;
+
+const PRESENT: u8 = 4;
+
+const ASYNC: u8 = 8;
+
+const GENERATOR: u8 = 16;
+
+const DECLARED: u8 = 32;
+
 /// Whether the flag of this value is set.
 fn has_flag(code: u8, value: u8) -> bool
     requires { 0 < value }
@@ -173,13 +179,13 @@ impl TryFrom<u8> for FlagByte {
             return Err(UnknownCode);
         }
         let flags = Flags {
-            is_static: has_flag(code, 1),
-            is_private: has_flag(code, 2),
-            is_async: has_flag(code, 8),
-            is_generator: has_flag(code, 16),
-            is_declared: has_flag(code, 32),
+            is_static: has_flag(code, STATIC),
+            is_private: has_flag(code, PRIVATE),
+            is_async: has_flag(code, ASYNC),
+            is_generator: has_flag(code, GENERATOR),
+            is_declared: has_flag(code, DECLARED),
         };
-        let present = has_flag(code, 4);
+        let present = has_flag(code, PRESENT);
         Ok(FlagByte { flags, present })
     }
 }

@@ -38,10 +38,8 @@ impl Item for Decorator {
 
     fn read(cursor: &mut Cursor<'_>) -> Result<Decorator, ReadFault> {
         let shape = read_code(cursor)?;
-        let at = cursor.at;
         let text = cursor.text()?;
-        Piece::Decorator { shape, text }.checked(at)?;
-        let text = text.place;
+        let text = Piece::Decorator { shape, text }.checked()?.place();
         Ok(Decorator { shape, text })
     }
 }
@@ -51,10 +49,8 @@ impl Item for Parameter {
 
     fn read(cursor: &mut Cursor<'_>) -> Result<Parameter, ReadFault> {
         let form = read_code(cursor)?;
-        let at = cursor.at;
         let text = cursor.text()?;
-        Piece::Parameter { form, text }.checked(at)?;
-        let text = text.place;
+        let text = Piece::Parameter { form, text }.checked()?.place();
         Ok(Parameter { form, text })
     }
 }

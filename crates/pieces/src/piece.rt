@@ -1,10 +1,10 @@
 //! A text of a member as the part of the sheet that it is.
 ghost use Rattle.std.specs.Prelude.{◌≡◌};
 ghost use Rattle.formats.specs.Cursors.{placed_in};
-ghost use Rattle.pieces.specs.Parts.{part, text_in, checked, shown, names_key, named};
+ghost use Rattle.pieces.specs.Parts.{part, at_of, bytes_in, place_of, checked, shown, names_key, named};
 
 use crate::codes::{Form, KeyKind, Kind, Shape};
-use formats::{ReadFault, Text, is_name};
+use formats::{Place, ReadFault, Text, is_name};
 
 /// A part of a sheet: what it is, and its text.
 #[derive(Clone, Copy)]
@@ -39,7 +39,7 @@ fn names_key(of: Kind, kind: KeyKind) -> bool
 
 impl<'s> Piece<'s> {
     fn text(self) -> Text<'s>
-        ensures { placed_in result ≡ text_in (part self.entry) }
+        ensures { placed_in result ≡ record { at = at_of self.entry; bytes = bytes_in (part self.entry); place = place_of (part self.entry) } }
     {
         match self {
             Piece::Key { text, .. }
@@ -61,12 +61,20 @@ impl<'s> Piece<'s> {
         }
     }
 
-    /// The piece itself, whose length stands at `at`, unless it has to be a name and is none.
-    pub(crate) fn checked(self, at: usize) -> Result<Piece<'s>, ReadFault>
-        ensures { shown result ≡ checked (part self.entry) at }
+    /// Where the piece lies in its sheet.
+    pub(crate) fn place(self) -> Place
+        ensures { result ≡ place_of (part self.entry) }
     {
-        if self.is_named() && !is_name(self.text().bytes) {
-            Err(ReadFault::NoName { at })
+        self.text().place
+    }
+
+    /// The piece itself, unless it has to be a name and is none.
+    pub(crate) fn checked(self) -> Result<Piece<'s>, ReadFault>
+        ensures { shown result ≡ checked (part self.entry) (at_of self.entry) }
+    {
+        let text = self.text();
+        if self.is_named() && !is_name(text.bytes) {
+            Err(ReadFault::NoName { at: text.at })
         } else {
             Ok(self)
         }

@@ -1,6 +1,6 @@
 //! What stands before the members: version, class name, superclass, and how many members there are.
 ghost use Rattle.std.specs.Prelude.{◌≡◌};
-ghost use Rattle.formats.specs.Cursors.{bytes_in, with_next};
+ghost use Rattle.formats.specs.Cursors.{ReadsBy};
 ghost use Rattle.sheet.specs.Opening.{opening_from};
 
 use formats::{Cursor, Place, ReadFault, is_name};
@@ -17,8 +17,7 @@ pub struct Opening {
 
 /// What the sheet begins with.
 pub(crate) fn read_opening(cursor: &mut Cursor<'_>) -> Result<Opening, ReadFault>
-    ensures opening { with_next result cursor.new.at ≡ opening_from (bytes_in cursor.old) cursor.old.at }
-    ensures sheet { cursor.new.sheet ≡ cursor.old.sheet }
+    ensures { ReadsBy opening_from cursor.old result cursor.new }
 {
     if cursor.byte()? != 1 {
         return Err(ReadFault::Version);

@@ -1,6 +1,6 @@
 //! Reads a member, and then looks at its rules.
 ghost use Rattle.std.specs.Prelude.{◌≡◌};
-ghost use Rattle.formats.specs.Cursors.{bytes_in, with_next};
+ghost use Rattle.formats.specs.Cursors.{ReadsBy};
 ghost use Rattle.pieces.specs.Fields.{seen_written};
 ghost use Rattle.sheet.specs.Members.{is_blank, body_of, member_of, made_in, member_at, seen};
 
@@ -52,8 +52,7 @@ fn member_of(written: Written, at: usize) -> Result<Member, MemberFault>
 
 /// The next member.
 pub(crate) fn read_member(cursor: &mut Cursor<'_>) -> Result<Member, Refusal>
-    ensures member { with_next (seen result) cursor.new.at ≡ member_at (bytes_in cursor.old) cursor.old.at }
-    ensures sheet { cursor.new.sheet ≡ cursor.old.sheet }
+    ensures { ReadsBy member_at cursor.old (seen result) cursor.new }
 {
     let at = cursor.at;
     let rest = cursor.text()?.place;

@@ -41,25 +41,25 @@ pub enum Refusal {
 }
 
 impl From<ReadFault> for Refusal {
-    ghost from_gives = { λ f r. r ≡ Reading f };
+    ghost from_gives = { λ fault refusal. refusal ≡ Reading fault };
 
-    fn from(f: ReadFault) -> Refusal {
-        Refusal::Reading(f)
+    fn from(fault: ReadFault) -> Refusal {
+        Refusal::Reading(fault)
     }
 }
 
 impl From<MemberFault> for Refusal {
-    ghost from_gives = { λ f r. r ≡ Members f };
+    ghost from_gives = { λ fault refusal. refusal ≡ Members fault };
 
-    fn from(f: MemberFault) -> Refusal {
-        Refusal::Members(f)
+    fn from(fault: MemberFault) -> Refusal {
+        Refusal::Members(fault)
     }
 }
 
 impl From<AllocError> for Refusal {
-    ghost from_gives = { λ _ r. r ≡ Memory };
+    ghost from_gives = { λ _ refusal. refusal ≡ Memory };
 
-    fn from(_f: AllocError) -> Refusal {
+    fn from(_error: AllocError) -> Refusal {
         Refusal::Memory
     }
 }

@@ -2,7 +2,7 @@
 ghost use Rattle.std.specs.Prelude.{◌≡◌, ℕ, Result};
 ghost use Rattle.formats.specs.declared.ReadFault.{ReadFault};
 ghost use Rattle.formats.specs.declared.ReadFault.TheVariants.{Unknown};
-ghost use Rattle.formats.specs.Cursors.{bytes_in, with_next};
+ghost use Rattle.formats.specs.Cursors.{ReadsBy};
 ghost use Rattle.formats.specs.Readers.{faulted};
 ghost use Rattle.pieces.specs.declared.codes.UnknownCode.{UnknownCode};
 ghost use Rattle.pieces.specs.Codes.{kind_of, key_kind_of, shape_of, form_of, flag_byte_of, code_and_next};
@@ -11,7 +11,7 @@ use super::{FlagByte, Form, KeyKind, Kind, Shape, UnknownCode};
 use formats::{Cursor, ReadFault};
 
 /// What a byte of a member can stand for.
-pub(crate) trait Code: TryFrom<u8, Error = UnknownCode> {
+pub(crate) trait Coded: TryFrom<u8, Error = UnknownCode> {
     /// What a byte at some place of a sheet is read as.
     ghost read_as: { ℕ → ℕ → Result Self ReadFault };
 
@@ -19,40 +19,39 @@ pub(crate) trait Code: TryFrom<u8, Error = UnknownCode> {
     ghost is_read: { (a : ℕ) (r : Result Self UnknownCode) → Self.try_from_gives a r → (at : ℕ) → faulted (λ _. Unknown at) r ≡ read_as a at };
 }
 
-impl Code for Kind {
+impl Coded for Kind {
     ghost read_as = { kind_of };
 
     ghost is_read = { λ a r h at. h at };
 }
 
-impl Code for KeyKind {
+impl Coded for KeyKind {
     ghost read_as = { key_kind_of };
 
     ghost is_read = { λ a r h at. h at };
 }
 
-impl Code for Shape {
+impl Coded for Shape {
     ghost read_as = { shape_of };
 
     ghost is_read = { λ a r h at. h at };
 }
 
-impl Code for Form {
+impl Coded for Form {
     ghost read_as = { form_of };
 
     ghost is_read = { λ a r h at. h at };
 }
 
-impl Code for FlagByte {
+impl Coded for FlagByte {
     ghost read_as = { flag_byte_of };
 
     ghost is_read = { λ a r h at. h at };
 }
 
 /// The next byte, as what it stands for.
-pub(crate) fn read_code<T: Code>(cursor: &mut Cursor<'_>) -> Result<T, ReadFault>
-    ensures code { with_next result cursor.new.at ≡ code_and_next T.Code.read_as (bytes_in cursor.old) cursor.old.at }
-    ensures sheet { cursor.new.sheet ≡ cursor.old.sheet }
+pub(crate) fn read_code<T: Coded>(cursor: &mut Cursor<'_>) -> Result<T, ReadFault>
+    ensures { ReadsBy (code_and_next T.Coded.read_as) cursor.old result cursor.new }
 {
     let at = cursor.at;
     let byte = cursor.byte()?;

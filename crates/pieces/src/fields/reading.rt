@@ -1,6 +1,6 @@
 //! Reads the fields of a member.
 ghost use Rattle.std.specs.Prelude.{◌≡◌};
-ghost use Rattle.formats.specs.Cursors.{bytes_in, with_next};
+ghost use Rattle.formats.specs.Cursors.{bytes_in, ReadsBy};
 ghost use Rattle.pieces.specs.Fields.{key_at, head_at, body_text_at, body_at, fields_at, seen_fields};
 
 use super::{Head, MOST_DECORATORS, MOST_PARAMETERS, Written};
@@ -12,21 +12,17 @@ use lists::read_list;
 
 /// The next key, of a member of the kind `of`.
 fn read_key(cursor: &mut Cursor<'_>, of: Kind) -> Result<Key, ReadFault>
-    ensures key { with_next result cursor.new.at ≡ key_at (bytes_in cursor.old) of cursor.old.at }
-    ensures sheet { cursor.new.sheet ≡ cursor.old.sheet }
+    ensures { ReadsBy (λ s. key_at s of) cursor.old result cursor.new }
 {
     let kind = read_code(cursor)?;
-    let at = cursor.at;
     let text = cursor.text()?;
-    Piece::Key { of, kind, text }.checked(at)?;
-    let text = text.place;
+    let text = Piece::Key { of, kind, text }.checked()?.place();
     Ok(Key { kind, text })
 }
 
 /// The kind, the flags and the key, which come next.
 fn read_head(cursor: &mut Cursor<'_>) -> Result<Head, ReadFault>
-    ensures head { with_next result cursor.new.at ≡ head_at (bytes_in cursor.old) cursor.old.at }
-    ensures sheet { cursor.new.sheet ≡ cursor.old.sheet }
+    ensures { ReadsBy head_at cursor.old result cursor.new }
 {
     let kind = read_code(cursor)?;
     let FlagByte { flags, present } = read_code(cursor)?;
@@ -41,19 +37,14 @@ fn read_head(cursor: &mut Cursor<'_>) -> Result<Head, ReadFault>
 
 /// The next text of a value, or of a body or a half of one.
 fn read_text(cursor: &mut Cursor<'_>) -> Result<Place, ReadFault>
-    ensures text { with_next result cursor.new.at ≡ body_text_at (bytes_in cursor.old) cursor.old.at }
-    ensures sheet { cursor.new.sheet ≡ cursor.old.sheet }
+    ensures { ReadsBy body_text_at cursor.old result cursor.new }
 {
-    let at = cursor.at;
-    let text = cursor.text()?;
-    Piece::Body(text).checked(at)?;
-    Ok(text.place)
+    Ok(Piece::Body(cursor.text()?).checked()?.place())
 }
 
 /// The next text, or the two texts of a constructor.
 fn read_body(cursor: &mut Cursor<'_>, kind: Kind) -> Result<Body, ReadFault>
-    ensures body { with_next result cursor.new.at ≡ body_at (bytes_in cursor.old) kind cursor.old.at }
-    ensures sheet { cursor.new.sheet ≡ cursor.old.sheet }
+    ensures { ReadsBy (λ s. body_at s kind) cursor.old result cursor.new }
 {
     let first = read_text(cursor)?;
     if !matches!(kind, Kind::Constructor) {
