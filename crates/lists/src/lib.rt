@@ -11,7 +11,8 @@ pub use reading::{Item, read_list};
 
 /// A list of at most `N` things: the first `len` of `items`, behind which stand fillers.
 ///
-/// It lies in place and is copied, since a member is, and nothing may be allocated where a class is lowered.
+/// It lies in place and is copied, since a member is, and nothing may be allocated where a class is lowered. It has no model, since a
+/// type that is copied would have to be given back by its model, and a list does not say which fillers stand behind it.
 #[derive(Copy)]
 pub struct Bounded<T, const N: usize> {
     items: [T; N],

@@ -6,7 +6,7 @@ use super::Bounded;
 use std::alloc::AllocError;
 
 impl<T: Copy, const N: usize> Bounded<T, N> {
-    /// The empty list. In the places that hold nothing stands `filler`.
+    /// The empty list. In the places that hold nothing stands `filler`; it is asked for, so that a list can hold what has no default.
     pub fn new(filler: T) -> Bounded<T, N>
         ensures { listed result ≡ [] }
     {

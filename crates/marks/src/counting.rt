@@ -8,7 +8,7 @@ use crate::source::{Exhausted, Marks};
 /// Gives the marks from the one that it stands at up to 65,535, the least first.
 #[derive(Drop)]
 pub struct Counter {
-    /// 0 once all are given, as in `new`: an `Option` would have both `None` and `Some(0)` for that.
+    /// 0 once all are given. It is no `Option`, since it is the number that `new` is called with, and 0 is none there too.
     next: u16,
 }
 

@@ -13,7 +13,7 @@ use crate::source::{Exhausted, Marks};
 #[derive(Drop)]
 pub struct Reserved<S> {
     below: S,
-    /// Of a fixed size, so that a layer needs no heap.
+    /// As many as the rules reserve at most, and in place, so that a layer needs no heap.
     table: [u16; 64],
 }
 

@@ -1,4 +1,4 @@
-//! The fields of a member as a sheet has them: its codes, and its texts, each handed out as the part of the sheet that it is.
+//! The fields of a member as a sheet has them: its codes, and its texts, each read as the part of the sheet that it is.
 
 #![tactic(auto)]
 
