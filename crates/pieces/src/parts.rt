@@ -7,6 +7,9 @@ use crate::piece::Piece;
 use formats::{Cursor, Place, ReadFault};
 use lists::Item;
 
+// A key, a decorator and a parameter are each a code and a text. They stay three structs: one generic struct would call a kind, a
+// shape and a form by one name, and save nothing where they are read, since each has a case of its own in `Piece`.
+
 #[derive(Clone, Copy)]
 pub struct Key {
     pub kind: KeyKind,
