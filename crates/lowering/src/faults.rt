@@ -40,7 +40,7 @@ impl ClassFault {
     pub fn numbered(self) -> Numbered
         ensures { result ≡ class_refusal self }
     {
-        Numbered::from(self)
+        self.into()
     }
 }
 
