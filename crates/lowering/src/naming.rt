@@ -19,8 +19,9 @@ pub(crate) const MOST_NAMES: usize = 194;
 /// The names of assignments, and those of results.
 pub(crate) const MOST_VARIABLES: usize = 770;
 
-/// Which members' names are wanted. It is an enum, since the cases are few and closed: a trait would say the same in more lines, and
-/// of a closure each call's contract would have to say which test it computes.
+/// Which members' names are wanted. It is an enum, since the cases are few and closed. A trait with a method for each case, which
+/// puts the names into a table, cannot be written: Rattle states no trait method that has a const parameter, which the table's size
+/// is. And of a closure each call's contract would have to say which test it computes.
 #[derive(Clone, Copy)]
 pub(crate) enum Pick {
     /// Those of a group.
