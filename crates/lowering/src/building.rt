@@ -21,6 +21,7 @@ fn place_call(members: &[Made], derived: bool, names: &mut Names<'_>) -> Constru
     ensures left { let ms = members_of (map item_of members.now) in
         names.new ≡ after (if_so (not (any_of built ms) && derived) (Args ∷ [])) names.old }
 {
+    // one pass finds the constructor with a body, or else the place behind the last one, which two searches would find in two passes
     let mut before = 0;
     for (member, made) in members.iter().enumerate() {
         let parts = made.held.member.parts();

@@ -11,7 +11,7 @@ use crate::members::text_of;
 use crate::tables::Table;
 use pieces::codes::KeyKind;
 use rules::{Code, Descriptor, DescriptorKey, Extra, Function, Made, MadeForm, Name, PrivateField};
-use sheet::Parts;
+use sheet::{MOST_MEMBERS, Parts};
 
 fn key_of(key: Option<Name>, parts: &Parts) -> DescriptorKey
     ensures { result ≡ descriptor_key key (seen_parts parts.now) }
@@ -73,7 +73,11 @@ fn describe_one(made: &Made) -> Descriptor
 }
 
 /// Appends the descriptors of one group, in written order.
-fn describe_group(members: &Table<Made, 64>, group: Group, descriptors: &mut Table<Descriptor, 64>)
+fn describe_group(
+    members: &Table<Made, MOST_MEMBERS>,
+    group: Group,
+    descriptors: &mut Table<Descriptor, MOST_MEMBERS>,
+)
     requires { length (rows_of descriptors.old) + length (filter (grouped group) (map item_of (rows_of members.now))) ≤ 64 }
     ensures { map described_of (rows_of descriptors.new)
         ≡ map described_of (rows_of descriptors.old) ++ map describe (filter (grouped group) (map item_of (rows_of members.now))) }
@@ -86,7 +90,10 @@ fn describe_group(members: &Table<Made, 64>, group: Group, descriptors: &mut Tab
 }
 
 /// Fills the table with the descriptors of the members.
-pub(crate) fn describe_all(members: &Table<Made, 64>, descriptors: &mut Table<Descriptor, 64>)
+pub(crate) fn describe_all(
+    members: &Table<Made, MOST_MEMBERS>,
+    descriptors: &mut Table<Descriptor, MOST_MEMBERS>,
+)
     ensures { map described_of (rows_of descriptors.new) ≡ map describe (in_order (λ i. i.member) (map item_of (rows_of members.now))) }
 {
     descriptors.clear();

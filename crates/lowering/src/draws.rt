@@ -9,7 +9,7 @@ ghost use Rattle.lowering.specs.Tallies.{tally_after, total_of};
 use crate::members::{is_built, is_replaced, is_taken, is_taken_out, treatment_of};
 use crate::tables::Table;
 use rules::{Held, Starters, Treatment};
-use sheet::Parts;
+use sheet::{MOST_MEMBERS, Parts};
 
 /// A class draws at most 17 names for each of its members, and one for a new constructor.
 pub(crate) const MOST_MARKS: usize = 1089;
@@ -135,7 +135,7 @@ fn total_of(tally: Tally, derived: bool) -> usize
 }
 
 /// How many names the class draws.
-pub(crate) fn count_draws(hand: &Table<Held, 64>, derived: bool) -> usize
+pub(crate) fn count_draws(hand: &Table<Held, MOST_MEMBERS>, derived: bool) -> usize
     ensures is { result ≡ length (draws derived (seen_hand (rows_of hand.now))) }
     ensures few { result ≤ 1089 }
 {

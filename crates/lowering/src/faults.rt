@@ -5,6 +5,7 @@ ghost use Rattle.lowering.specs.Refusals.{class_refusal, lower_refusal};
 
 use marks::Exhausted;
 use refusals::{Layer, Numbered};
+use sheet::MOST_MEMBERS;
 
 /// What is wrong with the members in hand. A member goes by its number.
 #[derive(Clone, Copy)]
@@ -24,7 +25,7 @@ impl From<ClassFault> for Numbered {
     fn from(fault: ClassFault) -> Numbered {
         let (number, place) = match fault {
             ClassFault::Constructor { member } => (8, member),
-            ClassFault::TooMany => (11, 64),
+            ClassFault::TooMany => (11, MOST_MEMBERS),
             ClassFault::StorageNumber { member } => (13, member),
         };
         Numbered {
@@ -40,7 +41,7 @@ impl ClassFault {
     pub fn numbered(self) -> Numbered
         ensures { result ≡ class_refusal self }
     {
-        Numbered::from(self)
+        self.into()
     }
 }
 

@@ -11,6 +11,7 @@ use crate::groups::{GROUPS, Group};
 use crate::tables::Table;
 use crate::taking::MOST_ASSIGNMENTS;
 use rules::{Assignment, Frame, Made, MadeForm, Name};
+use sheet::MOST_MEMBERS;
 
 /// Of each member at most three names stand for results, and there are two starters.
 pub(crate) const MOST_NAMES: usize = 194;
@@ -18,8 +19,9 @@ pub(crate) const MOST_NAMES: usize = 194;
 /// The names of assignments, and those of results.
 pub(crate) const MOST_VARIABLES: usize = 770;
 
-/// Which members' names are wanted. It is an enum, since the cases are few and closed: a trait would say the same in more lines, and
-/// of a closure each call's contract would have to say which test it computes.
+/// Which members' names are wanted. It is an enum, since the cases are few and closed. A trait with a method for each case, which
+/// puts the names into a table, cannot be written: Rattle states no trait method that has a const parameter, which the table's size
+/// is. And of a closure each call's contract would have to say which test it computes.
 #[derive(Clone, Copy)]
 pub(crate) enum Pick {
     /// Those of a group.
@@ -64,7 +66,11 @@ fn names_of(form: MadeForm) -> [Option<Name>; 3]
 }
 
 /// Appends the names of all members that are wanted, in written order.
-fn put_all<const N: usize>(pick: Pick, members: &Table<Made, 64>, names: &mut Table<Name, N>)
+fn put_all<const N: usize>(
+    pick: Pick,
+    members: &Table<Made, MOST_MEMBERS>,
+    names: &mut Table<Name, N>,
+)
     requires { length (rows_of names.old) + length (flat_map item_names (filter (wanted pick) (map item_of (rows_of members.now)))) ≤ N }
     ensures { rows_of names.new ≡ rows_of names.old ++ flat_map item_names (filter (wanted pick) (map item_of (rows_of members.now))) }
 {
@@ -86,7 +92,11 @@ fn put_assigned<const N: usize>(assignments: &[Assignment], names: &mut Table<Na
 }
 
 /// Fills the table with the names of all descriptors' results, in the order of the descriptors, and the starters.
-pub(crate) fn name_all(members: &Table<Made, 64>, frame: Frame, names: &mut Table<Name, MOST_NAMES>)
+pub(crate) fn name_all(
+    members: &Table<Made, MOST_MEMBERS>,
+    frame: Frame,
+    names: &mut Table<Name, MOST_NAMES>,
+)
     ensures { rows_of names.new
         ≡ flat_map item_names (in_order (λ i. i.member) (map item_of (rows_of members.now)))
         ++ (option_to_list frame.instance_starter ++ option_to_list frame.static_starter) }
@@ -101,7 +111,7 @@ pub(crate) fn name_all(members: &Table<Made, 64>, frame: Frame, names: &mut Tabl
 /// Fills the table with the variables: the names that are no parameters, as they were drawn, and the starters.
 pub(crate) fn declare_all(
     assignments: &Table<Assignment, MOST_ASSIGNMENTS>,
-    members: &Table<Made, 64>,
+    members: &Table<Made, MOST_MEMBERS>,
     frame: Frame,
     variables: &mut Table<Name, MOST_VARIABLES>,
 )
@@ -119,7 +129,7 @@ pub(crate) fn declare_all(
 }
 
 /// The starter of a half: it is drawn with the first decorated non-field of that half.
-pub(crate) fn starter_of(is_static: bool, members: &Table<Made, 64>) -> Option<Name>
+pub(crate) fn starter_of(is_static: bool, members: &Table<Made, MOST_MEMBERS>) -> Option<Name>
     ensures { result ≡ starter_of is_static (map item_of (rows_of members.now)) }
 {
     let starting = Group {

@@ -16,7 +16,8 @@ impl Numbers {
     }
 }
 
-/// Unless the work is accepted, the storage number goes back to what it was, by whichever way the work is left.
+/// Unless the work is accepted, the storage number goes back to what it was, by whichever way the work is left. It is a guard and not
+/// an assignment, so that no way out of a lowering, not even one that is added later, can forget it.
 pub(crate) struct Restore<'a> {
     pub(crate) numbers: &'a mut Numbers,
     pub(crate) before: u16,

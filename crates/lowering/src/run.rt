@@ -6,6 +6,7 @@ ghost use Rattle.lowering.specs.Rows.{rows_of};
 use crate::numbers::Numbers;
 use crate::tables::Table;
 use rules::Held;
+use sheet::MOST_MEMBERS;
 
 mod calls;
 
@@ -14,6 +15,6 @@ mod calls;
 pub struct Run<S> {
     source: S,
     numbers: Numbers,
-    hand: Table<Held, 64>,
+    hand: Table<Held, MOST_MEMBERS>,
     ghost written: { all_written (rows_of hand) ≡ true },
 }

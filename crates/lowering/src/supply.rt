@@ -13,13 +13,17 @@ use crate::numbers::{Numbers, Restore};
 use crate::tables::Table;
 use marks::{Marks, draw_into};
 use rules::Held;
+use sheet::MOST_MEMBERS;
 
 // `hand` and `derived` stay two parameters: walk 1 writes into the hand, so that only the counts and the checks would take a struct.
 /// Checks the members, raises the storage number by their accessors, and draws the marks of the class into the first places of
 /// `marks`; it answers how many these are. Refused, it leaves the storage number as it was.
+///
+/// The answer is a number and not a slice: the buffer is lent for as long as the marks are drawn, and what was drawn is read after
+/// the storage number is written back.
 #[tactic(auto, using(crate::proofs::Checking::numbers_fit))]
 pub(crate) fn supply<S: Marks>(
-    hand: &Table<Held, 64>,
+    hand: &Table<Held, MOST_MEMBERS>,
     derived: bool,
     source: &mut S,
     numbers: &mut Numbers,

@@ -23,17 +23,17 @@ use rules::{Assignment, Decoration, Decorators, Held, Made, MadeForm, Name, Stem
 pub(crate) const MOST_ASSIGNMENTS: usize = 576;
 
 /// One decorator stands bare; two or more become an array in written order.
-pub(crate) fn merge_decorators(decorations: &[Decoration]) -> Decorators
+pub(crate) fn merge_decorators(decorations: &[Decoration]) -> Option<Decorators>
     requires { length decorations.now ≤ 8 }
     ensures { applied result ≡ merged decorations.now }
 {
     match decorations {
-        [one] => Decorators::Bare(*one),
-        [first, rest @ ..] => Decorators::Array {
+        [one] => Some(Decorators::Bare(*one)),
+        [first, rest @ ..] => Some(Decorators::Array {
             first: *first,
             rest: Bounded::of(*first, rest),
-        },
-        [] => Decorators::Nothing,
+        }),
+        [] => None,
     }
 }
 

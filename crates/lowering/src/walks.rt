@@ -14,13 +14,14 @@ use crate::names::Names;
 use crate::tables::Table;
 use crate::taking::{MOST_ASSIGNMENTS, take_first};
 use rules::{Assignment, Held, Made};
+use sheet::MOST_MEMBERS;
 
 /// Walk 1: what is evaluated ahead of the class is taken out of the members in hand, and a row is made for each of them.
 pub(crate) fn walk_first(
-    hand: &mut Table<Held, 64>,
+    hand: &mut Table<Held, MOST_MEMBERS>,
     names: &mut Names<'_>,
     assignments: &mut Table<Assignment, MOST_ASSIGNMENTS>,
-    members: &mut Table<Made, 64>,
+    members: &mut Table<Made, MOST_MEMBERS>,
 )
     ensures items { map item_of (rows_of members.new) ≡ first_walk names.old 0 (seen_hand (rows_of hand.old)) }
     ensures rows { rows_of assignments.new ≡ assignments_from names.old 0 (seen_hand (rows_of hand.old)) }
@@ -35,7 +36,11 @@ pub(crate) fn walk_first(
 
 /// Walk 2: accessors, methods, getters and setters. `number` is the storage number before. Answers whether the instance starter's
 /// call is left to the constructor.
-pub(crate) fn walk_second(members: &mut Table<Made, 64>, number: u16, names: &mut Names<'_>) -> bool
+pub(crate) fn walk_second(
+    members: &mut Table<Made, MOST_MEMBERS>,
+    number: u16,
+    names: &mut Names<'_>,
+) -> bool
     requires { number + count_by accessor (members_of (map item_of (rows_of members.old))) ≤ 65535 }
     ensures items { map item_of (rows_of members.new) ≡ second_walk no_starters number names.old 0 (map item_of (rows_of members.old)) }
     ensures calls { result ≡ constructor_calls (members_of (map item_of (rows_of members.old))) }
@@ -52,7 +57,7 @@ pub(crate) fn walk_second(members: &mut Table<Made, 64>, number: u16, names: &mu
 }
 
 /// Walk 3: fields.
-pub(crate) fn walk_third(members: &mut Table<Made, 64>, names: &mut Names<'_>)
+pub(crate) fn walk_third(members: &mut Table<Made, MOST_MEMBERS>, names: &mut Names<'_>)
     ensures items { map item_of (rows_of members.new) ≡ third_walk names.old 0 (map item_of (rows_of members.old)) }
     ensures left { names.new ≡ after (for_each third_stems 0 (members_of (map item_of (rows_of members.old)))) names.old }
 {

@@ -31,10 +31,10 @@ pub data Applied : Type 0 where
   bare : Decoration → Applied
   array : Decoration → List Decoration → Applied
 
-abbrev pub applied : Decorators → Applied
-applied several.Nothing = nothing
-applied (several.Bare d) = bare d
-applied (several.Array d rest) = array d (listed rest)
+abbrev pub applied : Option Decorators → Applied
+applied None = nothing
+applied (Some (several.Bare d)) = bare d
+applied (Some (several.Array d rest)) = array d (listed rest)
 
 -- One decorator stands bare, two or more in an array, in written order.
 abbrev pub merged : List Decoration → Applied

@@ -24,12 +24,9 @@ pub enum Decoration {
     Assigned(Name),
 }
 
-/// The decorators of a member as its descriptor has them, in written order.
+/// The decorators of a decorated member as its descriptor has them, in written order.
 #[derive(Clone, Copy)]
 pub enum Decorators {
-    /// Of a member that is not decorated; no descriptor has it. An Option of the other two would not say more, and would ask for
-    /// an invariant wherever a descriptor is made.
-    Nothing,
     /// One stands bare.
     Bare(Decoration),
     /// Two or more stand in an array.
@@ -99,7 +96,7 @@ impl From<Code> for u8 {
 /// What the helper is told of one decorated member.
 #[derive(Clone, Copy)]
 pub struct Descriptor {
-    pub decorators: Decorators,
+    pub decorators: Option<Decorators>,
     pub code: Code,
     pub key: DescriptorKey,
     /// Of a private member alone.

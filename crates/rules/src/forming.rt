@@ -81,7 +81,7 @@ pub enum MadeForm {
 pub struct Made {
     /// As it is in hand after walk 1.
     pub held: Held,
-    pub decorators: Decorators,
+    pub decorators: Option<Decorators>,
     pub form: MadeForm,
     /// The starter of its half, if it was drawn with this member.
     pub starter: Option<Name>,

@@ -14,6 +14,7 @@ mod whole;
 pub use class::Class;
 pub use formats::{Place, ReadFault, Sheet};
 pub use member::Member;
+pub use opening::MOST_MEMBERS;
 pub use parts::Parts;
 pub use pieces::codes::{Flags, Form, KeyKind, Kind, Shape};
 pub use pieces::parts::{Body, Decorator, Key, Parameter};

@@ -15,6 +15,7 @@ use crate::naming::{declare_all, name_all, starter_of};
 use crate::tables::Table;
 use crate::walks::{walk_first, walk_second, walk_third};
 use rules::{Constructor, Frame, Held};
+use sheet::MOST_MEMBERS;
 use std::alloc::{AllocError, Global};
 
 const EMPTY_FRAME: Frame = Frame {
@@ -69,7 +70,7 @@ impl Record {
     /// Fills the record with what the rules make of the members in hand, with the marks that were drawn for them.
     pub(crate) fn fill(
         &mut self,
-        hand: &mut Table<Held, 64>,
+        hand: &mut Table<Held, MOST_MEMBERS>,
         number: u16,
         derived: bool,
         marks: &[u16],

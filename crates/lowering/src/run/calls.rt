@@ -14,7 +14,7 @@ use crate::supply::supply;
 use crate::tables::Table;
 use marks::Marks;
 use rules::Held;
-use sheet::Member;
+use sheet::{MOST_MEMBERS, Member};
 use std::alloc::{AllocError, Global};
 
 impl<S> Run<S> {
@@ -39,7 +39,7 @@ impl<S> Run<S> {
         ensures answer { result ≡ added (state_of self.old) }
         ensures after { state_of self.new ≡ after_add (state_of self.old) member }
     {
-        if self.hand.as_slice().len() >= 64 {
+        if self.hand.as_slice().len() >= MOST_MEMBERS {
             return Err(ClassFault::TooMany);
         }
         self.hand.push(Held { member, key: None });
