@@ -21,7 +21,8 @@ loop-decorator-preserved c =
     let rows = rows_of c.loop-decorator.assignments in
     let inv = c.loop-decorator.invariant in
     let within = c.loop-decorator-test.true in
-    let room : length list < 8 = omega (arith, inv.full, within, ap length c.as_slice-decorator-items.ensures, listed_few c.args.decorators.now) in
+    let few = listed_few c.args.decorators.now in
+    let room : length list < 8 = omega (arith, inv.full, within, ap length c.as_slice-decorator-items.ensures, few) in
     let more = appended list 8 _ _ c.append.ensures room in
     let drawn = c.take_decorator.ensures.left in
     record {
