@@ -30,7 +30,9 @@ names_few (Called name) = omega arith
 item_names_few : (is : List Item) → length (flat_map item_names is) ≤ 3 * length is
 item_names_few [] = omega arith
 item_names_few (i ∷ is) =
-    omega (arith, item_names_few is, names_few i.form, length-append (second_names i.form) (third_names i.form), length-append (item_names i) (flat_map item_names is))
+    let here = length-append (second_names i.form) (third_names i.form) in
+    let all = length-append (item_names i) (flat_map item_names is) in
+    omega (arith, item_names_few is, names_few i.form, here, all)
 
 -- the names of a group
 abbrev pub names_in : List Item → Group → List Name

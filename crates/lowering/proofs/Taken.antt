@@ -1,10 +1,13 @@
 -- What walk 1 takes out, one decorator after another.
-use Rattle.std.proofs.Common.{◌≡◌, ℕ, ◌<◌, Bool, true, false, cond, List, [], ◌∷◌, ◌++◌, map, length, take, filter, Option, refl, sym, ap, ◌∙◌, append_assoc, arith}
-use Rattle.std.proofs.lemmas.List.{take_all, length_push}
+use Rattle.std.proofs.Common.{◌≡◌, ℕ, ◌+◌, ◌<◌, ◌≤◌, Bool, true, false, cond, List, [], ◌∷◌, ◌++◌, map, length, take, filter, Option, refl, sym, ap, ◌∙◌, append_assoc, arith}
+use Rattle.std.proofs.lemmas.List.{take_all, length_push, length-append, length-take}
 use Rattle.formats.specs.declared.Place.{Place}
+use Rattle.lists.specs.declared.Bounded.{Bounded}
+use Rattle.lists.specs.Listed.{listed}
 use Rattle.pieces.specs.declared.parts.Decorator.{Decorator}
 use Rattle.pieces.specs.declared.codes.Shape.TheVariants.{Identifier}
 use Rattle.sheet.specs.Seen.{Seen}
+use Rattle.rules.specs.declared.forming.Held.{Held}
 use Rattle.rules.specs.declared.naming.Name.{Name}
 use Rattle.rules.specs.declared.describing.Assignment.{Assignment}
 use Rattle.rules.specs.declared.naming.Stem.TheVariants.{Dec, ComputedKey}
@@ -13,6 +16,7 @@ use Rattle.rules.specs.declared.describing.Decoration.TheVariants.{Written, Assi
 use Rattle.rules.specs.Members.{taken, taken_out, replaced}
 use Rattle.rules.specs.Draws.{named, if_so, first_stems}
 use Rattle.rules.specs.Walks.{some_if, decorations, decorator_assignments, key_name, key_assignments, member_assignments}
+use Rattle.lowering.specs.Hands.{seen_held}
 use Rattle.lowering.specs.Left.{after}
 use Rattle.lowering.proofs.Left.{after_append, after_map, at_after, named_on, decorations_on, decorator_assignments_on}
 
@@ -23,6 +27,32 @@ nowhere = record { shape = Identifier; text = record { start = 0; length = 0 } }
 -- there is room for one more
 pub appended : {X : Type 0} (xs : List X) (n : ℕ) (y : X) (ys : List X) → ys ≡ take n (xs ++ y ∷ []) → length xs < n → ys ≡ xs ++ y ∷ []
 appended xs n y ys is room = is ∙ take_all n (xs ++ y ∷ []) (omega (arith, length_push xs y))
+
+-- How many texts are assigned: at most one for each decorator, and one for the key.
+pub listed_few : {T : Type 0} {N : ℕ} (b : Bounded T N) → length (listed b) ≤ N
+listed_few b = omega (arith, length-take b.len b.items, b.within)
+
+pub one_few : {X : Type 0} (b : Bool) (x : X) → length (if_so b (x ∷ [])) ≤ 1
+one_few true x = omega arith
+one_few false x = omega arith
+
+pub one_more : {X : Type 0} (xs ys : List X) (b : Bool) (x : X) → ys ≡ xs ++ if_so b (x ∷ []) → length ys ≤ length xs + 1
+one_more xs ys b x is = omega (arith, ap length is, length-append xs (if_so b (x ∷ [])), one_few b x)
+
+pub assigned_few : (walked : Bool) (ds : List Decorator) (marks : List ℕ) (k : ℕ) →
+    length (decorator_assignments walked ds marks k) ≤ length ds
+assigned_few walked [] marks k = omega arith
+assigned_few walked (d ∷ ds) marks k =
+    let more = assigned_few walked ds marks (k + 1) in
+    let same = assigned_few walked ds marks k in
+    grind arith
+
+pub member_few : (h : Held) (marks : List ℕ) → length (member_assignments marks 0 (seen_held h)) ≤ 9
+member_few h marks =
+    let m = seen_held h in
+    let both = length-append (decorator_assignments (taken m) m.decorators marks 0) (key_assignments marks 0 m) in
+    let key = one_few {X = Assignment} (replaced m) (record { name = key_name marks 0 m; text = m.key.text }) in
+    omega (arith, both, assigned_few (taken m) m.decorators marks 0, listed_few h.member.parts.decorators, key)
 
 after_if : {X Y : Type 0} (b : Bool) (x : X) (y : Y) (marks : List ℕ) → after (if_so b (x ∷ [])) marks ≡ after (if_so b (y ∷ [])) marks
 after_if true x y marks = refl

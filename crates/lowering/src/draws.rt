@@ -61,11 +61,11 @@ fn second_count(starters: Starters, parts: &Parts) -> usize
 {
     let starter = usize::from(is_due(starters, parts));
     match treatment_of(parts) {
-        Treatment::Untouched | Treatment::DecoratedField(_) => 0,
+        Treatment::Untouched | Treatment::DecoratedField { .. } => 0,
         Treatment::Stored => 1,
-        Treatment::DecoratedAccessor(true) => 5 + starter,
-        Treatment::DecoratedAccessor(false) => 2 + starter,
-        Treatment::DecoratedElement(private) => usize::from(private) + starter,
+        Treatment::DecoratedAccessor { private: true } => 5 + starter,
+        Treatment::DecoratedAccessor { private: false } => 2 + starter,
+        Treatment::DecoratedElement { private } => usize::from(private) + starter,
     }
 }
 
@@ -75,7 +75,7 @@ fn third_count(parts: &Parts) -> usize
     ensures few { result ≤ 2 }
 {
     match treatment_of(parts) {
-        Treatment::DecoratedField(private) => 1 + usize::from(private),
+        Treatment::DecoratedField { private } => 1 + usize::from(private),
         _ => 0,
     }
 }
@@ -86,9 +86,11 @@ pub(crate) fn starters_after(starters: Starters, parts: &Parts) -> Starters
 {
     let is_static = parts.flags.is_static;
     let (starts, calls) = match treatment_of(parts) {
-        Treatment::Untouched | Treatment::Stored | Treatment::DecoratedField(_) => (false, false),
-        Treatment::DecoratedAccessor(_) => (true, !is_static),
-        Treatment::DecoratedElement(_) => (true, false),
+        Treatment::Untouched | Treatment::Stored | Treatment::DecoratedField { .. } => {
+            (false, false)
+        }
+        Treatment::DecoratedAccessor { .. } => (true, !is_static),
+        Treatment::DecoratedElement { .. } => (true, false),
     };
     Starters {
         instance: starters.instance || starts && !is_static,

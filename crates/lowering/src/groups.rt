@@ -41,8 +41,9 @@ impl Group {
         let parts = made.held.member.parts();
         let wanted = match treatment_of(parts) {
             Treatment::Untouched | Treatment::Stored => false,
-            Treatment::DecoratedField(_) => !self.non_field,
-            Treatment::DecoratedAccessor(_) | Treatment::DecoratedElement(_) => self.non_field,
+            Treatment::DecoratedField { .. } => !self.non_field,
+            Treatment::DecoratedAccessor { .. } | Treatment::DecoratedElement { .. } =>
+                self.non_field,
         };
         wanted && self.is_static == parts.flags.is_static
     }

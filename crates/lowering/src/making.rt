@@ -159,7 +159,7 @@ fn second_of(parts: &Parts, reached: Reached, names: &mut Names<'_>) -> Second
     ensures left { names.new ≡ after (second_stems reached.starters (seen_parts parts.now)) names.old }
 {
     match treatment_of(parts) {
-        Treatment::Untouched | Treatment::DecoratedField(_) => Second {
+        Treatment::Untouched | Treatment::DecoratedField { .. } => Second {
             form: MadeForm::AsWritten,
             starter: None,
         },
@@ -171,10 +171,12 @@ fn second_of(parts: &Parts, reached: Reached, names: &mut Names<'_>) -> Second
             },
             starter: None,
         },
-        Treatment::DecoratedAccessor(private) => {
+        Treatment::DecoratedAccessor { private } => {
             second_of_accessor(private, parts, reached, names)
         }
-        Treatment::DecoratedElement(private) => second_of_element(private, parts, reached, names),
+        Treatment::DecoratedElement { private } => {
+            second_of_element(private, parts, reached, names)
+        }
     }
 }
 
@@ -210,7 +212,7 @@ fn third_form(parts: &Parts, form: MadeForm, names: &mut Names<'_>) -> MadeForm
     ensures is { result ≡ third_form (treatment (seen_parts parts.now)) names.old 0 (seen_parts parts.now) form }
     ensures left { names.new ≡ after (third_stems (seen_parts parts.now)) names.old }
 {
-    let Treatment::DecoratedField(private) = treatment_of(parts) else {
+    let Treatment::DecoratedField { private } = treatment_of(parts) else {
         return form;
     };
     MadeForm::Initialized {

@@ -18,12 +18,12 @@ pub(crate) fn treatment_of(parts: &Parts) -> Treatment
     let decorated = parts.is_decorated();
     let private = parts.flags.is_private;
     match parts.kind {
-        Kind::Field if decorated => Treatment::DecoratedField(private),
-        Kind::Accessor if decorated => Treatment::DecoratedAccessor(private),
+        Kind::Field if decorated => Treatment::DecoratedField { private },
+        Kind::Accessor if decorated => Treatment::DecoratedAccessor { private },
         Kind::Accessor => Treatment::Stored,
-        Kind::Method | Kind::Getter | Kind::Setter if decorated => Treatment::DecoratedElement(
+        Kind::Method | Kind::Getter | Kind::Setter if decorated => Treatment::DecoratedElement {
             private,
-        ),
+        },
         _ => Treatment::Untouched,
     }
 }

@@ -23,11 +23,12 @@ use rules::{Assignment, Decoration, Decorators, Held, Made, MadeForm, Name, Stem
 pub(crate) const MOST_ASSIGNMENTS: usize = 576;
 
 /// One decorator stands bare; two or more become an array in written order.
-pub(crate) fn merge_decorators(decorations: &[Decoration]) -> Option<Decorators>
-    requires { length decorations.now ≤ 8 }
-    ensures { applied result ≡ merged decorations.now }
+pub(crate) fn merge_decorators(
+    decorations: &Bounded<Decoration, MOST_DECORATORS>,
+) -> Option<Decorators>
+    ensures { applied result ≡ merged (listed decorations.now) }
 {
-    match decorations {
+    match decorations.as_slice() {
         [one] => Some(Decorators::Bare(*one)),
         [first, rest @ ..] => Some(Decorators::Array {
             first: *first,
@@ -50,7 +51,6 @@ fn take_out(
     ensures name { result ≡ some_if wanted (named stem names.old 0) }
     ensures rows { rows_of assignments.new ≡ rows_of assignments.old
         ++ if_so wanted (record { name = named stem names.old 0; text = text } ∷ []) }
-    ensures few { length (rows_of assignments.new) ≤ length (rows_of assignments.old) + 1 }
     ensures left { names.new ≡ after (if_so wanted (stem ∷ [])) names.old }
 {
     let taken = names.next_if(wanted, stem);
@@ -71,7 +71,6 @@ fn take_decorator(
     ensures is { result ≡ cond (taken_out walked decorator) (Assigned (named Dec names.old 0)) (Written decorator.text) }
     ensures rows { rows_of assignments.new ≡ rows_of assignments.old
         ++ if_so (taken_out walked decorator) (record { name = named Dec names.old 0; text = decorator.text } ∷ []) }
-    ensures few { length (rows_of assignments.new) ≤ length (rows_of assignments.old) + 1 }
     ensures left { names.new ≡ after (if_so (taken_out walked decorator) (Dec ∷ [])) names.old }
 {
     let wanted = is_taken_out(walked, decorator);
@@ -85,19 +84,18 @@ fn take_decorator(
 /// The decorators as the descriptor has them, in written order.
 fn take_decorators(
     walked: bool,
-    decorators: &[Decorator],
+    decorators: &Bounded<Decorator, MOST_DECORATORS>,
     names: &mut Names<'_>,
     assignments: &mut Table<Assignment, MOST_ASSIGNMENTS>,
 ) -> Bounded<Decoration, MOST_DECORATORS>
-    requires few { length decorators.now ≤ 8 }
-    requires room { length (rows_of assignments.old) + 8 ≤ 576 }
-    ensures list { listed result ≡ decorations walked decorators.now names.old 0 }
-    ensures rows { rows_of assignments.new ≡ rows_of assignments.old ++ decorator_assignments walked decorators.now names.old 0 }
-    ensures few { length (rows_of assignments.new) ≤ length (rows_of assignments.old) + 8 }
-    ensures left { names.new ≡ after (filter (taken_out walked) decorators.now) names.old }
+    requires { length (rows_of assignments.old) + 8 ≤ 576 }
+    ensures list { listed result ≡ decorations walked (listed decorators.now) names.old 0 }
+    ensures rows { rows_of assignments.new
+        ≡ rows_of assignments.old ++ decorator_assignments walked (listed decorators.now) names.old 0 }
+    ensures left { names.new ≡ after (filter (taken_out walked) (listed decorators.now)) names.old }
 {
     let mut list = Bounded::new(Decoration::Written(Place::default()));
-    for decorator in decorators {
+    for decorator in decorators.as_slice() {
         list.append(take_decorator(walked, *decorator, names, assignments));
     }
     list
@@ -113,20 +111,19 @@ pub(crate) fn take_first(
     ensures item { item_of result ≡ first_item names.old 0 (seen_held slot.old) }
     ensures held { slot.new ≡ result.held }
     ensures rows { rows_of assignments.new ≡ rows_of assignments.old ++ member_assignments names.old 0 (seen_held slot.old) }
-    ensures few { length (rows_of assignments.new) ≤ length (rows_of assignments.old) + 9 }
     ensures left { names.new ≡ after (first_stems (seen_held slot.old)) names.old }
 {
     let member = slot.member;
     let parts = member.parts();
-    let decorators = parts.decorators.as_slice();
-    let decorations = take_decorators(is_taken(parts), decorators, names, assignments);
+    let walked = is_taken(parts);
+    let decorations = take_decorators(walked, &parts.decorators, names, assignments);
     let replaced = is_replaced(parts);
     let text = parts.key.text;
     let key = take_out(replaced, Stem::ComputedKey, text, names, assignments);
     *slot = Held { member, key };
     Made {
         held: *slot,
-        decorators: merge_decorators(decorations.as_slice()),
+        decorators: merge_decorators(&decorations),
         form: MadeForm::AsWritten,
         starter: None,
     }

@@ -191,7 +191,9 @@ assembled assignments is constructor = record {
   members = is;
   descriptors = map describe (in_order (λ i. i.member) is);
   names = flat_map item_names (in_order (λ i. i.member) is) ++ starter_names is;
-  variables = map (λ a. a.name) assignments ++ (flat_map (λ i. second_names i.form) is ++ (flat_map (λ i. third_names i.form) is ++ starter_names is));
+  variables =
+      map (λ a. a.name) assignments
+      ++ (flat_map (λ i. second_names i.form) is ++ (flat_map (λ i. third_names i.form) is ++ starter_names is));
   frame = record {
     instance_starter = starter_of false is;
     static_starter = starter_of true is;

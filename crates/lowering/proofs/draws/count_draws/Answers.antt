@@ -4,6 +4,7 @@ use Rattle.rules.specs.Draws.{draws}
 use Rattle.lowering.specs.Hands.{seen_hand}
 use Rattle.lowering.specs.Tallies.{tally_after, tallied, total_of}
 use Rattle.lowering.proofs.Counts.{started, total_drawn, total_few}
+use Rattle.lowering.proofs.Rooms.{rows_few}
 use Rattle.lowering.proofs.Turns.{at_drop_item}
 use Rattle.lowering.proofs.draws.count_draws.Goals as goal
 
@@ -28,8 +29,11 @@ returns c =
     let all : t ≡ tallied started (seen_hand hs) = sym none ∙ c.loop-held.invariant.tally in
     let total = c.total_of.ensures ∙ ap (λ u. total_of u c.args.derived) all in
     let few = total_few t c.args.derived in
-    let short : c.loop-held.held-index ≤ 64 = omega (arith, ap length c.as_slice-members.ensures, c.args.hand.now.few, c.args.hand.now.rows.ok.0, c.loop-held.auto.held-index-end) in
+    let rows = ap length c.as_slice-members.ensures in
+    let short : c.loop-held.held-index ≤ 64 = omega (arith, rows, rows_few c.args.hand.now, c.loop-held.auto.held-index-end) in
     record {
-      is = total ∙ (total_drawn c.args.derived (seen_hand hs) ∙ ap (λ xs. length (draws c.args.derived (seen_hand xs))) c.as_slice-members.ensures);
+      is = total
+          ∙ (total_drawn c.args.derived (seen_hand hs)
+          ∙ ap (λ xs. length (draws c.args.derived (seen_hand xs))) c.as_slice-members.ensures);
       few = omega (arith, c.total_of.ensures, few, short, c.loop-held.invariant.names);
     }

@@ -34,7 +34,8 @@ short d f1 a b c f g m x = record {
   unnumbered_told = refl;
 }
 
-worked : (d f1 step of paid due ab unit returnNew zero returnTwo three four : Place) → Worked d f1 step of paid due ab unit returnNew zero returnTwo three four
+worked : (d f1 step of paid due ab unit returnNew zero returnTwo three four : Place) →
+    Worked d f1 step of paid due ab unit returnNew zero returnTwo three four
 worked d f1 step of paid due ab unit returnNew zero returnTwo three four = record {
   drawn = refl;
   assignments = refl;

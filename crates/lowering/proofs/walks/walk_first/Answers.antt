@@ -1,10 +1,11 @@
 use Rattle.std.proofs.Common.{◌+◌, ◌<◌, length, get_or, map, ap, ◌∙◌, arith}
-use Rattle.std.proofs.lemmas.List.{drop-set-lt, length_push, map_push}
+use Rattle.std.proofs.lemmas.List.{drop-set-lt, length_push, length-append, map_push}
 use Rattle.std.proofs.lemmas.Grind.{drop_more_same}
 use Rattle.rules.specs.Draws.{first_stems}
-use Rattle.rules.specs.Walks.{item_of}
+use Rattle.rules.specs.Walks.{item_of, member_assignments}
 use Rattle.lowering.specs.Hands.{seen_held, seen_hand}
 use Rattle.lowering.specs.Rows.{rows_of}
+use Rattle.lowering.proofs.Taken.{member_few}
 use Rattle.lowering.proofs.Walked.{each_left, first_turn, rows_turn, left_item}
 use Rattle.lowering.proofs.walks.walk_first.Goals as goal
 
@@ -30,5 +31,11 @@ loop-slot-preserved c =
       rows = rows_turn marks next _ _ _ (seen_held x) _ _ took.rows members took.left inv.rows;
       left = each_left i (seen_held x) _ _ marks next _ members first_stems took.left inv.left;
       made = omega (arith, ap length c.push.ensures ∙ length_push out made, inv.made);
-      few = omega (arith, took.few, inv.few);
+      few = omega (
+        arith,
+        ap length took.rows,
+        length-append (rows_of c.loop-slot.assignments) (member_assignments marks 0 (seen_held x)),
+        member_few x marks,
+        inv.few,
+      );
     }
