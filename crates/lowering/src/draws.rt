@@ -1,4 +1,7 @@
 //! How many names a class draws.
+//!
+//! The starters and a member's parts stay two parameters: they are what was seen before and what is looked at, and types of two other
+//! crates.
 ghost use Rattle.std.specs.Prelude.{◌≡◌, ◌+◌, ◌≤◌, not, ◌&&◌, length};
 ghost use Rattle.sheet.specs.Seen.{seen_parts};
 ghost use Rattle.rules.specs.Draws.{due, starters_after, expressions, first_stems, second_stems, third_stems, draws};

@@ -1,4 +1,7 @@
 //! The walks over the members.
+//!
+//! Each walk is lent the tables that it writes and the names: of the record's tables the others go on reading some, and a struct of
+//! several `&mut` would have to promise that they are still the same ones.
 ghost use Rattle.std.specs.Prelude.{◌≡◌, ◌+◌, ◌≤◌, [], map, count_by};
 ghost use Rattle.rules.specs.Members.{accessor};
 ghost use Rattle.rules.specs.Draws.{no_starters, first_stems, third_stems, for_each, for_second_walk, constructor_calls};
