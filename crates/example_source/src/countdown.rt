@@ -8,6 +8,7 @@ use marks::{Exhausted, Marks};
 /// Gives the marks from the one that it stands at down to 1, the greatest first.
 #[derive(Drop)]
 pub struct Countdown {
+    /// 0 once all are given, as in `new`.
     next: u16,
 }
 

@@ -52,6 +52,8 @@ pub enum LowerFault {
     Marks(Exhausted),
 }
 
+// Written out, since clauses name what a `?` makes.
+
 impl From<ClassFault> for LowerFault {
     ghost from_gives = { λ fault lower. lower ≡ Members fault };
 

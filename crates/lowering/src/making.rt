@@ -1,7 +1,8 @@
 //! What a member is made into, with the names that are left.
 //!
 //! The parts of the member and the names stay two parameters: a struct of both would be a `&` and a `&mut`, and each function would
-//! also have to promise that they are still the same two.
+//! also have to promise that they are still the same two. What was reached is walk 2's and is copied, and whether the member is
+//! private is what its treatment says.
 ghost use Rattle.std.specs.Prelude.{◌≡◌, ◌≤◌, [], ◌∷◌, cond};
 ghost use Rattle.sheet.specs.Seen.{seen_parts};
 ghost use Rattle.rules.specs.Members.{treatment, replaced};

@@ -39,6 +39,7 @@ impl<S: Marks> Marks for Reserved<S> {
         rw h.0 (skips_draws m.free m.steps S.Marks.draws s.table s.below r t.below h.1) };
 
     fn draw(&mut self) -> Result<u16, Exhausted> {
+        // the loop yields the mark by `break`, so that no variable waits for it
         let mark = loop {
             let mark = self.below.draw()?;
             if !self.table.contains(&mark) {

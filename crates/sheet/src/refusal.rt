@@ -40,6 +40,8 @@ pub enum Refusal {
     Memory,
 }
 
+// Written out, since clauses name what a `?` makes.
+
 impl From<ReadFault> for Refusal {
     ghost from_gives = { λ fault refusal. refusal ≡ Reading fault };
 
