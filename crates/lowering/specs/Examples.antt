@@ -18,6 +18,7 @@ use Rattle.rules.specs.declared.naming.Stem.{Stem}
 use Rattle.rules.specs.declared.naming.Stem.TheVariants.{Dec, ComputedKey, Init, InitFieldKey, V, Get, Set, Call, InstanceStarter, StaticStarter, Args}
 use Rattle.rules.specs.declared.naming.Name.{Name}
 use Rattle.rules.specs.declared.describing.Assignment.{Assignment}
+use Rattle.rules.specs.declared.describing.Code.{Code}
 use Rattle.rules.specs.declared.describing.Decoration.TheVariants.{Written, Assigned}
 use Rattle.rules.specs.declared.describing.DescriptorKey.{DescriptorKey}
 use Rattle.rules.specs.declared.describing.DescriptorKey.TheVariants as descriptorKeys
@@ -31,7 +32,7 @@ use Rattle.rules.specs.declared.forming.MadeForm.TheVariants.{AsWritten, Initial
 use Rattle.rules.specs.declared.forming.Constructor.TheVariants as constructors
 use Rattle.rules.specs.Draws.{Drawing, draws}
 use Rattle.rules.specs.Walks.{Applied, bare, array}
-use Rattle.rules.specs.Records.{Record, Described, More, nothing, function, reaches, lowered}
+use Rattle.rules.specs.Records.{Record, Described, More, nothing, function, reaches, lowered, code_number}
 use Rattle.rules.specs.Refused.{first_out_of_order, first_unnumbered}
 use Rattle.lowering.specs.declared.faults.LowerFault.{LowerFault}
 use Rattle.lowering.specs.declared.faults.LowerFault.TheVariants.{Marks}
@@ -157,8 +158,19 @@ call name value = record { name = name; value = value }
 abbrev pub assign : Name → Place → Assignment
 assign name text = record { name = name; text = text }
 
+-- the code of a member of this kind: of the instance half, and of the static half
+abbrev pub on_instance : Kind → Code
+on_instance k = record { kind = k; is_static = false }
+
+abbrev pub on_class : Kind → Code
+on_class k = record { kind = k; is_static = true }
+
+-- the numbers of the codes
+abbrev pub code_numbers : List Described → List ℕ
+code_numbers ds = map (λ x. code_number x.code) ds
+
 -- a descriptor: decorators, code, key, and what follows the key
-abbrev pub descriptor : Applied → ℕ → DescriptorKey → More → Described
+abbrev pub descriptor : Applied → Code → DescriptorKey → More → Described
 descriptor decorators code key more = record { decorators = decorators; code = code; key = key; more = more }
 
 -- the member of this number draws a name with this stem
@@ -193,7 +205,7 @@ pub record Row : Type 0 where
 abbrev pub row : Bool → List Seen → Row
 row derived ms = record {
   draws = map (λ x. x.stem) (draws derived ms);
-  codes = map (λ x. x.code) (lowered_from_one derived ms).descriptors;
+  codes = code_numbers (lowered_from_one derived ms).descriptors;
   names = (lowered_from_one derived ms).names;
 }
 
@@ -268,7 +280,8 @@ module _ (d f1 a b c f g m x : Place) where
     -- Two decorators become an array, in which a name stands for the one that is taken out.
     pub two_decorators :
         (lowered_from_one false (method_twice ∷ [])).descriptors
-        ≡ descriptor (array (Written d) (Assigned (Dec $ 1) ∷ [])) 2 (descriptorKeys.Quoted m) nothing ∷ []
+        ≡ descriptor (array (Written d) (Assigned (Dec $ 1) ∷ [])) (on_instance kinds.Method) (descriptorKeys.Quoted m) nothing ∷ []
+    pub two_decorators_code : code_numbers (lowered_from_one false (method_twice ∷ [])).descriptors ≡ 2 ∷ []
     pub two_decorators_assigned : (lowered_from_one false (method_twice ∷ [])).assignments ≡ assign (Dec $ 1) f1 ∷ []
     -- Of the six marks that the accessor needs a counter from 65,531 has five.
     pub few_marks : supplied false 0 (from 65531) (accessor_x ∷ []) ≡ Err (Marks (record { drawn = 5 }))
@@ -338,16 +351,16 @@ module _ (d f1 step of paid due ab unit returnNew zero returnTwo three four : Pl
         ∷ Initialized (call (InitFieldKey $ 13) (Some three)) None
         ∷ Stored (storage (Public unit) 2) (Some four) (V $ 11)
         ∷ []
-    -- the codes are 7, 5, 1, 3, 0
+    pub codes : code_numbers (lowered_from_one false rate).descriptors ≡ 7 ∷ 5 ∷ 1 ∷ 3 ∷ 0 ∷ []
     pub descriptors :
         (lowered_from_one false rate).descriptors
-        ≡ descriptor (bare (Written d)) 7 (descriptorKeys.Quoted of) nothing
-        ∷ descriptor (bare (Written d)) 5 (descriptorKeys.Assigned (ComputedKey $ 2)) nothing
-        ∷ descriptor (array (Written d) (Assigned (Dec $ 1) ∷ [])) 1 (descriptorKeys.Quoted paid)
+        ≡ descriptor (bare (Written d)) (on_class kinds.Method) (descriptorKeys.Quoted of) nothing
+        ∷ descriptor (bare (Written d)) (on_class kinds.Field) (descriptorKeys.Assigned (ComputedKey $ 2)) nothing
+        ∷ descriptor (array (Written d) (Assigned (Dec $ 1) ∷ [])) (on_instance kinds.Accessor) (descriptorKeys.Quoted paid)
         (reaches (fields.Stored (storage (Private paid) 1)) (V $ 6))
-        ∷ descriptor (bare (Written d)) 3 (descriptorKeys.Quoted due)
+        ∷ descriptor (bare (Written d)) (on_instance kinds.Getter) (descriptorKeys.Quoted due)
         (function (record { async = false; generator = false; parameters = []; text = Some returnTwo }))
-        ∷ descriptor (bare (Written d)) 0 (descriptorKeys.Quoted step) nothing
+        ∷ descriptor (bare (Written d)) (on_instance kinds.Field) (descriptorKeys.Quoted step) nothing
         ∷ []
     -- in the order of the results
     pub names :

@@ -46,7 +46,7 @@ pub data More : Type 0 where
 
 pub record Described : Type 0 where
   pub decorators : Applied
-  pub code : ℕ
+  pub code : Code
   pub key : DescriptorKey
   pub more : More
 
@@ -63,10 +63,10 @@ abbrev pub code_number : Code → ℕ
 code_number c = kind_code c.kind + cond c.is_static 5 0
 
 abbrev pub described_of : Descriptor → Described
-described_of d = record { decorators = applied d.decorators; code = code_number d.code; key = d.key; more = more_of d.extra }
+described_of d = record { decorators = applied d.decorators; code = d.code; key = d.key; more = more_of d.extra }
 
-abbrev pub code : Seen → ℕ
-code m = code_number (record { kind = m.kind; is_static = m.flags.is_static })
+abbrev pub code : Seen → Code
+code m = record { kind = m.kind; is_static = m.flags.is_static }
 
 -- a string for an identifier, else what stands in the brackets
 abbrev pub written_key : KeyKind → Place → DescriptorKey

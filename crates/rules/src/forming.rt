@@ -94,7 +94,8 @@ pub enum Constructor {
     AsWritten,
     /// The member of this number has the instance starter's call.
     Old { member: usize },
-    /// A new one with the call stands ahead of the member of this number, in a derived class with these arguments.
+    /// A new one with the call stands ahead of the member of this number, or behind all members where there is none of this number;
+    /// in a derived class with these arguments.
     New { before: usize, args: Option<Name> },
 }
 
