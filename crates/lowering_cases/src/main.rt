@@ -1,4 +1,6 @@
 //! Lowers the class of each line of the standard input, and prints what the record has of it.
+//!
+//! The loop over the lines is that of `reader_cases`: in a library it would be a public call, of which no contract can say what is read.
 
 #![tactic(auto)]
 
