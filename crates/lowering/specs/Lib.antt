@@ -10,6 +10,7 @@ pub mod Recorded
 pub mod Refusals
 pub mod Rows
 pub mod Seconds
+pub mod Samples
 pub mod States
 pub mod Supplies
 pub mod Tallies

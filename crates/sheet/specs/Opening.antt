@@ -12,7 +12,7 @@ use Rattle.sheet.specs.declared.opening.Opening.{Opening}
 abbrev pub superclass_of : Place → Option Place
 superclass_of p = cond (p.length == 0) None (Some p)
 
--- at `at`
+-- what stands from `at` on, where a sheet begins
 abbrev pub opening_from : List ℕ → ℕ → Result (Opening × ℕ) ReadFault
 opening_from s at =
     then (byte_at s at)

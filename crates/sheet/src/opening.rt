@@ -22,10 +22,9 @@ pub(crate) fn read_opening(cursor: &mut Cursor<'_>) -> Result<Opening, ReadFault
     if cursor.byte()? != 1 {
         return Err(ReadFault::Version);
     }
-    let at = cursor.at;
     let name = cursor.text()?;
     if !is_name(name.bytes) {
-        return Err(ReadFault::NoName { at });
+        return Err(ReadFault::NoName { at: name.at });
     }
     let name = name.place;
     let text = cursor.text()?.place;

@@ -54,8 +54,7 @@ fn member_of(written: Written, at: usize) -> Result<Member, MemberFault>
 pub(crate) fn read_member(cursor: &mut Cursor<'_>) -> Result<Member, Refusal>
     ensures { ReadsBy member_at cursor.old (seen result) cursor.new }
 {
-    let at = cursor.at;
-    let rest = cursor.text()?.place;
-    let written = read_fields(cursor.within(rest))?;
-    Ok(member_of(written, at)?)
+    let rest = cursor.text()?;
+    let written = read_fields(cursor.within(rest.place))?;
+    Ok(member_of(written, rest.at)?)
 }

@@ -16,14 +16,14 @@ pub struct Spaced<'s>(Text<'s>);
 
 impl<'s> Text<'s> {
     /// The text at a place of a sheet.
-    pub fn new(sheet: Sheet<'s>, place: Place) -> Text<'s> {
+    pub(crate) fn new(sheet: Sheet<'s>, place: Place) -> Text<'s> {
         Text {
             bytes: sheet.part(place),
         }
     }
 
     /// The text with a blank before it.
-    pub fn spaced(self) -> Spaced<'s> {
+    pub(crate) fn spaced(self) -> Spaced<'s> {
         Spaced(self)
     }
 }
