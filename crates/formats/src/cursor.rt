@@ -1,5 +1,5 @@
 //! Reading a sheet field after field.
-ghost use Rattle.std.specs.Prelude.{◌≡◌, length, take, nat_le};
+ghost use Rattle.std.specs.Prelude.{◌≡◌, length, take, nat_le, OnErr};
 ghost use Rattle.formats.specs.Reading.{end};
 ghost use Rattle.formats.specs.Cursors.{bytes_in, ReadsBy, byte_and_next, text_and_next, placed};
 
@@ -16,7 +16,7 @@ pub struct Text<'s> {
 /// Where a sheet is being read: the next field begins at `at`.
 #[derive(Clone, Copy)]
 pub struct Cursor<'s> {
-    sheet: Sheet<'s>,
+    pub sheet: Sheet<'s>,
     pub at: usize,
 }
 
@@ -47,18 +47,20 @@ impl<'s> Cursor<'s> {
         }
     }
 
-    /// The next byte.
+    /// The next byte. Where there is none, the cursor stays where it is.
     pub fn byte(&mut self) -> Result<u8, ReadFault>
-        ensures { ReadsBy byte_and_next self.old result self.new }
+        ensures reads { ReadsBy byte_and_next self.old result self.new }
+        ensures stays { OnErr result (self.new ≡ self.old) }
     {
         let byte = self.sheet.byte(self.at)?;
         self.at += 1;
         Ok(byte)
     }
 
-    /// The next text, behind its length.
+    /// The next text, behind its length. Where there is none, the cursor stays where it is.
     pub fn text(&mut self) -> Result<Text<'s>, ReadFault>
-        ensures { ReadsBy text_and_next self.old (placed result) self.new }
+        ensures reads { ReadsBy text_and_next self.old (placed result) self.new }
+        ensures stays { OnErr result (self.new ≡ self.old) }
     {
         let at = self.at;
         let place = self.sheet.text(at)?;

@@ -40,9 +40,11 @@ impl Item for Decorator {
     ghost reads = { decorator_at };
 
     fn read(cursor: &mut Cursor<'_>) -> Result<Decorator, ReadFault> {
-        let shape = read_code(cursor)?;
-        let text = cursor.text()?;
+        let mut next = *cursor;
+        let shape = read_code(&mut next)?;
+        let text = next.text()?;
         let text = Piece::Decorator { shape, text }.checked()?.place();
+        *cursor = next;
         Ok(Decorator { shape, text })
     }
 }
@@ -51,9 +53,11 @@ impl Item for Parameter {
     ghost reads = { parameter_at };
 
     fn read(cursor: &mut Cursor<'_>) -> Result<Parameter, ReadFault> {
-        let form = read_code(cursor)?;
-        let text = cursor.text()?;
+        let mut next = *cursor;
+        let form = read_code(&mut next)?;
+        let text = next.text()?;
         let text = Piece::Parameter { form, text }.checked()?.place();
+        *cursor = next;
         Ok(Parameter { form, text })
     }
 }

@@ -9,5 +9,5 @@ abbrev pub invariant-loop : goal.invariant-loop
 invariant-loop g l =
     let read = g.T.Item.reads (bytes_in l.initial.cursor) in
     (length (listed l.list) ≡ l.counter)
-    × (l.cursor.sheet ≡ l.initial.cursor.sheet)
-    × (items read (l.count - l.counter) (listed l.list) l.cursor.at ≡ items read l.count [] (l.at + 1))
+    × (l.next.sheet ≡ l.initial.cursor.sheet)
+    × (items read (l.count - l.counter) (listed l.list) l.next.at ≡ items read l.count [] (l.at + 1))

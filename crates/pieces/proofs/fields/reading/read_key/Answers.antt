@@ -15,8 +15,8 @@ returns c =
     let after = c.read_code.new.cursor.at in
     let piece = part c.in_ok-checked.field-0 in
     let (a, byte, code, next) = code_steps key_kind_of s at kind after c.in_ok-kind.ensures.0 in
-    let text = c.in_ok-text.ensures.0 ∙ ap₂ text_and_next (ap bytes_of c.in_ok-kind.ensures.1) next in
+    let text = c.in_ok-text.ensures.reads.0 ∙ ap₂ text_and_next (ap bytes_of c.in_ok-kind.ensures.1) next in
     let (is, made, end) = piece_steps (key c.args.of kind) s (at + 1) t c.text.new.self.at piece text c.in_ok-checked.ensures in
     let place = c.place-text.ensures ∙ ap place_of made in
-    let sheet = c.in_ok-text.ensures.1 ∙ c.in_ok-kind.ensures.1 in
+    let sheet = c.in_ok-text.ensures.reads.1 ∙ c.in_ok-kind.ensures.1 in
     search rules
