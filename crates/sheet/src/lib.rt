@@ -16,7 +16,7 @@ pub use formats::{Place, ReadFault, Sheet};
 pub use member::Member;
 pub use opening::MOST_MEMBERS;
 pub use parts::Parts;
-pub use pieces::codes::{Flags, Form, KeyKind, Kind, Shape};
+pub use pieces::codes::{Flags, Form, KeyKind, Kind, Shape, UnknownCode};
 pub use pieces::parts::{Body, Decorator, Key, Parameter};
 pub use refusal::{MemberFault, Refusal};
 pub use refusals::{Layer, Numbered};
