@@ -3,6 +3,7 @@ use crate::member::Entry;
 use crate::text::Text;
 use sheet::{Class, Sheet};
 use std::fmt;
+use std::fmt::Display;
 
 /// A class, and the sheet that has its texts.
 #[derive(Clone, Copy)]
@@ -26,7 +27,7 @@ impl fmt::Display for Listing<'_> {
                 parts: member.parts(),
                 sheet,
             };
-            write!(f, "{entry}")?;
+            entry.fmt(f)?;
         }
         match class.members.len() {
             1 => writeln!(f, "1 member"),

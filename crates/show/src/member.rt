@@ -2,6 +2,7 @@
 use crate::text::{Spaced, Text};
 use sheet::{Body, KeyKind, Kind, Parts, Place, Sheet};
 use std::fmt;
+use std::fmt::Display;
 
 /// A member, the `number`th of its class, counted from 0, and the sheet that has its texts.
 #[derive(Clone, Copy)]
@@ -49,10 +50,15 @@ impl<'s> Entry<'s> {
         let text = Text::new(self.sheet, self.parts.key.text);
         match kind {
             KeyKind::Identifier if self.parts.flags.is_private => writeln!(f, " #{text}"),
-            KeyKind::Identifier => writeln!(f, "{}", text.spaced()),
-            KeyKind::Literal => writeln!(f, "{}\n  key: {kind}", text.spaced()),
+            KeyKind::Identifier => text.spaced().fmt(f),
+            KeyKind::Literal => {
+                text.spaced().fmt(f)?;
+                writeln!(f, "  key: {kind}")
+            }
             KeyKind::ComputedIdentifier | KeyKind::Computed => {
-                writeln!(f, " [{text}]\n  key: {kind}")
+                write!(f, " [{text}]\n  key: ")?;
+                kind.fmt(f)?;
+                f.write_str("\n")
             }
         }
     }
@@ -65,17 +71,21 @@ impl<'s> Entry<'s> {
         text: Place,
         f: &mut fmt::Formatter<W>,
     ) -> fmt::Result {
-        writeln!(f, "  {word}: {kind}{}", self.spaced(text))
+        f.write_str(word)?;
+        kind.fmt(f)?;
+        self.spaced(text).fmt(f)
     }
 
     fn write_body<W: fmt::Write>(&self, f: &mut fmt::Formatter<W>) -> fmt::Result {
         let word = text_word(self.parts.kind);
         match self.parts.body {
             None => writeln!(f, "  no {word}"),
-            Some(Body::Text(text)) => writeln!(f, "  {word}:{}", self.spaced(text)),
+            Some(Body::Text(text)) => write!(f, "  {word}:{}", self.spaced(text)),
             Some(Body::Constructor { head, tail }) => {
-                writeln!(f, "  head:{}", self.spaced(head))?;
-                writeln!(f, "  tail:{}", self.spaced(tail))
+                f.write_str("  head:")?;
+                self.spaced(head).fmt(f)?;
+                f.write_str("  tail:")?;
+                self.spaced(tail).fmt(f)
             }
         }
     }
@@ -86,13 +96,13 @@ impl fmt::Display for Entry<'_> {
         let parts = self.parts;
         write!(f, "member {}: ", self.number)?;
         self.write_flags(f)?;
-        write!(f, "{}", parts.kind)?;
+        parts.kind.fmt(f)?;
         self.write_key(f)?;
         for decorator in parts.decorators.as_slice() {
-            self.write_item("decorator", decorator.shape, decorator.text, f)?;
+            self.write_item("  decorator: ", decorator.shape, decorator.text, f)?;
         }
         for parameter in parts.parameters.as_slice() {
-            self.write_item("parameter", parameter.form, parameter.text, f)?;
+            self.write_item("  parameter: ", parameter.form, parameter.text, f)?;
         }
         self.write_body(f)
     }

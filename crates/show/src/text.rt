@@ -10,7 +10,7 @@ pub struct Text<'s> {
     bytes: &'s [u8],
 }
 
-/// A text with a blank before it, or nothing where the text is empty. It ends a line.
+/// The rest of a line: a blank and a text, or nothing where the text is empty, and the line feed.
 #[derive(Clone, Copy)]
 pub struct Spaced<'s>(Text<'s>);
 
@@ -22,7 +22,7 @@ impl<'s> Text<'s> {
         }
     }
 
-    /// The text with a blank before it.
+    /// The text as the rest of a line.
     pub(crate) fn spaced(self) -> Spaced<'s> {
         Spaced(self)
     }
@@ -63,8 +63,8 @@ impl fmt::Display for Spaced<'_> {
     fn fmt<W: fmt::Write>(&self, f: &mut fmt::Formatter<W>) -> fmt::Result {
         let text = self.0;
         if text.bytes.is_empty() {
-            return Ok(());
+            return f.write_str("\n");
         }
-        write!(f, " {text}")
+        writeln!(f, " {text}")
     }
 }
