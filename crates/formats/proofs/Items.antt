@@ -1,5 +1,5 @@
 -- One more thing of several is read. Assumes nothing.
-use Rattle.std.proofs.Common.{◌≡◌, ℕ, suc, ◌+◌, ◌-◌, ◌<◌, List, [], ◌∷◌, ◌++◌, map, Ok, Err, Result, sym, ap, ◌∙◌, arith}
+use Rattle.std.proofs.Common.{◌≡◌, ℕ, suc, ◌+◌, ◌-◌, ◌<◌, ◌≤◌, List, [], ◌∷◌, ◌++◌, map, Ok, Err, Result, sym, ap, ◌∙◌, arith}
 use Rattle.std.proofs.lemmas.List.{map_push}
 use Rattle.formats.specs.Readers.{then, items}
 
@@ -23,3 +23,10 @@ pub items_fault : {X F : Type 0} (read : ℕ → Result (X × ℕ) F) (n i : ℕ
     read at ≡ Err f → items read (n - i) done at ≡ Err f
 items_fault read n i done at f h is =
     items_more read n i done at h ∙ ap (λ r. then r (λ x. items read (n - (i + 1)) (done ++ x.0 ∷ []) x.1)) is
+
+-- none is left
+pub items_done : {X F : Type 0} (read : ℕ → Result (X × ℕ) F) (n i : ℕ) (done : List X) (at : ℕ) → n ≤ i →
+    items read (n - i) done at ≡ Ok (done, at)
+items_done read n i done at h =
+    let e : n - i ≡ 0 = omega arith in
+    ap (λ k. items read k done at) e

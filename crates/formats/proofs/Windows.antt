@@ -1,6 +1,7 @@
 -- What is taken from a list, bounded by its length or not. Assumes nothing.
 use Rattle.std.proofs.Common.{◌≡◌, ℕ, ◌+◌, ◌*◌, ◌<◌, ◌≤◌, min, Bool, true, false, cond, ltb, leb, List, length, get_or, take, drop, Ok, Err, Result, sym, refl, ap, ◌∙◌, ap₂, arith}
-use Rattle.std.proofs.lemmas.List.{take_all, length-take, get_or-take, take-take}
+use Rattle.std.specs.List.{between}
+use Rattle.std.proofs.lemmas.List.{take_all, drop_all, length-take, get_or-take, take-take}
 use Rattle.std.proofs.lemmas.Bool.{leb-true, leb-false, ltb-true}
 use Rattle.std.proofs.lemmas.Slice.{between_is}
 use Rattle.formats.specs.declared.Place.{Place}
@@ -18,6 +19,18 @@ taken s n k is = by (leb n (length s)) refl
     by false h =
         let lt = leb-false n (length s) h in
         take_all k s (omega arith) ∙ sym (take_all n s (omega arith))
+
+-- a part that is bounded at both of its ends
+pub clipped : (s : List ℕ) (i j a b : ℕ) → a ≡ min i (length s) → b ≡ min j (length s) → between a b s ≡ between i j s
+clipped s i j a b is-a is_b =
+    between_is s a b ∙ (ap (drop a) (taken s j b is_b) ∙ (by (leb i (length s)) refl ∙ sym (between_is s i j)))
+  where
+    by : (t : Bool) → leb i (length s) ≡ t → drop a (take j s) ≡ drop i (take j s)
+    by true h = let le = leb-true i (length s) h in let e : a ≡ i = omega arith in ap (λ m. drop m (take j s)) e
+    by false h =
+        let lt = leb-false i (length s) h in
+        let size = length-take j s in
+        drop_all a (take j s) (omega arith) ∙ sym (drop_all i (take j s) (omega arith))
 
 -- What is read of the first `last` bytes of `s`, by offsets of `s` itself.
 abbrev pub byte_to : List ℕ → ℕ → ℕ → Result ℕ ReadFault

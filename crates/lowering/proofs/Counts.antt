@@ -3,10 +3,10 @@ use Rattle.std.proofs.Common.{◌≡◌, ℕ, suc, ◌+◌, ◌≤◌, Bool, tru
 use Rattle.std.proofs.lemmas.List.{length-append, length-map}
 use Rattle.sheet.specs.Seen.{Seen}
 use Rattle.rules.specs.declared.naming.Stem.{Stem}
-use Rattle.rules.specs.declared.naming.Stem.TheVariants.{Args}
+use Rattle.rules.specs.declared.naming.Stem.TheVariants.{Args, ComputedKey}
 use Rattle.rules.specs.declared.treating.Starters.{Starters}
-use Rattle.rules.specs.Members.{any_of, starts, holds_call, built}
-use Rattle.rules.specs.Draws.{Drawing, starters_after, first_stems, second_stems, third_stems, if_so, drawings, for_each, for_second_walk, draws_args, draws, no_starters, args_at, constructor_calls}
+use Rattle.rules.specs.Members.{any_of, starts, holds_call, built, replaced}
+use Rattle.rules.specs.Draws.{Drawing, starters_after, expressions, first_stems, second_stems, third_stems, if_so, drawings, for_each, for_second_walk, draws_args, draws, no_starters, args_at, constructor_calls}
 use Rattle.lowering.specs.declared.draws.Tally.{Tally}
 use Rattle.lowering.specs.Tallies.{starters_over, tally_after, tallied, total_of}
 
@@ -38,6 +38,11 @@ or_assoc : (a b c : Bool) → (a || b) || c ≡ a || (b || c)
 or_assoc true b c = refl
 or_assoc false b c = refl
 
+or_swap : (a b c : Bool) → (a || b) || c ≡ b || (a || c)
+or_swap true true c = refl
+or_swap true false c = refl
+or_swap false b c = refl
+
 instance_over : (s : Starters) (ms : List Seen) → (starters_over s ms).instance ≡ s.instance || any_of (starts false) ms
 instance_over s [] = sym (or_false s.instance)
 instance_over s (m ∷ ms) = instance_over (starters_after s m) ms ∙ or_assoc s.instance (starts false m) (any_of (starts false) ms)
@@ -54,9 +59,23 @@ counted_starters : (t : Tally) (ms : List Seen) → (tallied t ms).starters ≡ 
 counted_starters t [] = refl
 counted_starters t (m ∷ ms) = counted_starters (tally_after t m) ms
 
+counted_instance : (t : Tally) (ms : List Seen) → (tallied t ms).starters.instance ≡ t.starters.instance || any_of (starts false) ms
+counted_instance t ms = ap (λ s. s.instance) (counted_starters t ms) ∙ instance_over t.starters ms
+
+counted_called : (t : Tally) (ms : List Seen) → (tallied t ms).starters.called ≡ t.starters.called || any_of holds_call ms
+counted_called t ms = ap (λ s. s.called) (counted_starters t ms) ∙ called_over t.starters ms
+
 counted_built : (t : Tally) (ms : List Seen) → (tallied t ms).built ≡ t.built || any_of built ms
 counted_built t [] = sym (or_false t.built)
 counted_built t (m ∷ ms) = counted_built (tally_after t m) ms ∙ or_assoc t.built (built m) (any_of built ms)
+
+length_if : (b : Bool) (x : Stem) → length (if_so b (x ∷ [])) ≡ cond b 1 0
+length_if true x = refl
+length_if false x = refl
+
+-- walk 1 draws a name for each decorator that is taken out, and one for the key
+pub first_length : (m : Seen) → length (first_stems m) ≡ expressions m + cond (replaced m) 1 0
+first_length m = simp (length-append, length-map) (ap (λ n. expressions m + n) (length_if (replaced m) ComputedKey))
 
 length_one : (b : Bool) (n : ℕ) (x : Stem) (w : ℕ) → n + length (drawings w (if_so b (x ∷ []))) ≡ cond b (n + 1) n
 length_one true n x w = refl

@@ -1,8 +1,13 @@
 -- The record that the walks fill.
-use Rattle.std.proofs.Common.{◌≡◌, Bool, true, false, ◌&&◌, List, [], ◌∷◌, ◌++◌, None, refl}
+use Rattle.std.proofs.Common.{◌≡◌, Bool, true, false, ◌&&◌, List, [], ◌∷◌, ◌++◌, map, None, refl}
 use Rattle.sheet.specs.declared.member.Member.{Member}
 use Rattle.rules.specs.declared.forming.Held.{Held}
 use Rattle.lowering.specs.Hands.{is_written, all_written}
+
+-- a list of which nothing is made is empty
+pub no_items : {X Y : Type 0} (f : X → Y) (xs : List X) → map f xs ≡ [] → xs ≡ []
+no_items f [] none = refl
+no_items f (x ∷ xs) none = cc
 
 and_true : (a b d : Bool) → a && b ≡ true → (b ≡ true → d ≡ true) → a && d ≡ true
 and_true true b d h f = f h

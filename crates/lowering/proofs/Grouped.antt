@@ -29,7 +29,7 @@ one_group (DecoratedAccessor _) false = omega arith
 one_group (DecoratedElement _) true = omega arith
 one_group (DecoratedElement _) false = omega arith
 
-groups_few : (is : List Item) →
+pub groups_few : (is : List Item) →
     length (filter (grouped (group true true)) is) + (length (filter (grouped (group true false)) is)
     + (length (filter (grouped (group false true)) is) + length (filter (grouped (group false false)) is))) ≤ length is
 groups_few [] = omega arith

@@ -1,3 +1,4 @@
+pub mod Built
 pub mod Checking
 pub mod Counts
 pub mod Described
@@ -10,6 +11,7 @@ pub mod Decorated
 pub mod Named
 pub mod Rooms
 pub mod Seconds
+pub mod Supplying
 pub mod Taken
 pub mod Turns
 pub mod Walked

@@ -1,5 +1,5 @@
 -- What walk 1 takes out, one decorator after another.
-use Rattle.std.proofs.Common.{◌≡◌, ℕ, ◌+◌, ◌<◌, ◌≤◌, Bool, true, false, cond, List, [], ◌∷◌, ◌++◌, map, length, take, filter, Option, refl, sym, ap, ◌∙◌, append_assoc, arith}
+use Rattle.std.proofs.Common.{◌≡◌, ℕ, suc, ◌+◌, ◌-◌, ◌<◌, ◌≤◌, Bool, true, false, cond, List, [], ◌∷◌, ◌++◌, map, length, get_or, take, drop, None, filter, Option, refl, sym, ap, ◌∙◌, append_assoc, arith}
 use Rattle.std.proofs.lemmas.List.{take_all, length_push, length-append, length-take}
 use Rattle.formats.specs.declared.Place.{Place}
 use Rattle.lists.specs.declared.Bounded.{Bounded}
@@ -13,9 +13,10 @@ use Rattle.rules.specs.declared.describing.Assignment.{Assignment}
 use Rattle.rules.specs.declared.naming.Stem.TheVariants.{Dec, ComputedKey}
 use Rattle.rules.specs.declared.describing.Decoration.{Decoration}
 use Rattle.rules.specs.declared.describing.Decoration.TheVariants.{Written, Assigned}
+use Rattle.rules.specs.declared.forming.MadeForm.TheVariants.{AsWritten}
 use Rattle.rules.specs.Members.{taken, taken_out, replaced}
 use Rattle.rules.specs.Draws.{named, if_so, first_stems}
-use Rattle.rules.specs.Walks.{some_if, decorations, decorator_assignments, key_name, key_assignments, member_assignments}
+use Rattle.rules.specs.Walks.{Applied, array, merged, some_if, decorations, decorator_assignments, hand_key, key_name, key_assignments, member_assignments, Item, first_item}
 use Rattle.lowering.specs.Hands.{seen_held}
 use Rattle.lowering.specs.Left.{after}
 use Rattle.lowering.proofs.Left.{after_append, after_map, at_after, named_on, decorations_on, decorator_assignments_on}
@@ -24,9 +25,22 @@ use Rattle.lowering.proofs.Left.{after_append, after_map, at_after, named_on, de
 abbrev pub nowhere : Decorator
 nowhere = record { shape = Identifier; text = record { start = 0; length = 0 } }
 
+-- two or more decorators
+pub merged_several : (ds : List Decoration) (d : Decoration) → 2 ≤ length ds → length ds ≤ 8 →
+    array (get_or ds 0 d) (take 8 (take (length ds - 1) (drop 1 ds))) ≡ merged ds
+merged_several [] d two few = absurd (omega arith)
+merged_several (x ∷ []) d two few = absurd (omega arith)
+merged_several (x ∷ e ∷ rest) d two few =
+    let all = take_all (suc (suc (length rest)) - 1) (e ∷ rest) (omega arith) in
+    let short = take_all 8 (e ∷ rest) (omega arith) in
+    ap (array x) (ap (take 8) all ∙ short)
+
 -- there is room for one more
 pub appended : {X : Type 0} (xs : List X) (n : ℕ) (y : X) (ys : List X) → ys ≡ take n (xs ++ y ∷ []) → length xs < n → ys ≡ xs ++ y ∷ []
 appended xs n y ys is room = is ∙ take_all n (xs ++ y ∷ []) (omega (arith, length_push xs y))
+
+pub going_on : {X : Type 0} (xs : List X) (y : X) (ys zs whole : List X) → ys ≡ xs ++ y ∷ [] → xs ++ y ∷ zs ≡ whole → ys ++ zs ≡ whole
+going_on xs y ys zs whole pushed same = ap (λ us. us ++ zs) pushed ∙ (append_assoc xs (y ∷ []) zs ∙ same)
 
 -- How many texts are assigned: at most one for each decorator, and one for the key.
 pub listed_few : {T : Type 0} {N : ℕ} (b : Bounded T N) → length (listed b) ≤ N
@@ -46,6 +60,9 @@ assigned_few walked (d ∷ ds) marks k =
     let more = assigned_few walked ds marks (k + 1) in
     let same = assigned_few walked ds marks k in
     grind arith
+
+pub key_few : (marks : List ℕ) (k : ℕ) (m : Seen) → length (key_assignments marks k m) ≤ 1
+key_few marks k m = one_few {X = Assignment} (replaced m) (record { name = key_name marks k m; text = m.key.text })
 
 pub member_few : (h : Held) (marks : List ℕ) → length (member_assignments marks 0 (seen_held h)) ≤ 9
 member_few h marks =
@@ -88,6 +105,12 @@ module _ (walked : Bool) (d : Decorator) (marks next : List ℕ) (drawn : next �
 pub filter_turn : {X : Type 0} (p : X → Bool) (x : X) (rest : List X) → filter p (x ∷ rest) ≡ if_so (p x) (x ∷ []) ++ filter p rest
 filter_turn p x rest =
     elim (p x) as (λ b. cond b (x ∷ filter p rest) (filter p rest) ≡ if_so b (x ∷ []) ++ filter p rest) [ true ↦ refl | false ↦ refl ]
+
+-- what walk 1 makes of a member
+pub made_first : (m n : Seen) (key : Option Name) (d : Applied) (marks : List ℕ) (k : ℕ) →
+    n ≡ m → key ≡ hand_key marks k m → d ≡ merged (decorations (taken m) m.decorators marks k) →
+    ◌≡◌ {A = Item} (record { member = n; key = key; decorators = d; form = AsWritten; starter = None }) (first_item marks k m)
+made_first m n key d marks k same is all = cc
 
 -- walk 1 over m: its decorators ds are taken out, and its key is, or not
 pub record Took (m : Seen) (marks next : List ℕ) (walked out : Bool) (ds : List Decorator) : Type 0 where

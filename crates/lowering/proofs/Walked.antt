@@ -1,15 +1,19 @@
 -- One member of a walk.
-use Rattle.std.proofs.Common.{◌≡◌, ℕ, suc, ◌+◌, ◌<◌, Bool, true, false, cond, List, [], ◌∷◌, ◌++◌, map, length, get_or, take, drop, set, count_by, sym, refl, ap, ◌∙◌, append_assoc, add-one, arith}
+use Rattle.std.proofs.Common.{◌≡◌, ℕ, suc, ◌+◌, ◌<◌, Bool, true, false, cond, ◌&&◌, List, [], ◌∷◌, ◌++◌, map, length, get_or, take, drop, set, count_by, Some, None, Option, sym, refl, ap, ◌∙◌, append_assoc, add-one, arith}
 use Rattle.std.proofs.lemmas.Grind.{drop_more_same}
-use Rattle.std.proofs.lemmas.List.{at_drop_more, drop_more, take_more_set, drop-set-lt, map_push}
+use Rattle.std.proofs.lemmas.List.{at_drop_more, drop_more, get_or-set_same, take_more_set, drop-set-lt, map_push}
 use Rattle.std.proofs.lemmas.List.Sums.{sum_by-cons}
 use Rattle.sheet.specs.Seen.{Seen}
 use Rattle.rules.specs.declared.naming.Stem.{Stem}
+use Rattle.rules.specs.declared.naming.Name.{Name}
 use Rattle.rules.specs.declared.describing.Assignment.{Assignment}
+use Rattle.rules.specs.declared.forming.Held.{Held}
+use Rattle.rules.specs.declared.forming.Made.{Made}
 use Rattle.rules.specs.declared.treating.Starters.{Starters}
 use Rattle.rules.specs.Members.{accessor}
 use Rattle.rules.specs.Draws.{Drawing, starters_after, first_stems, second_stems, third_stems, drawings, for_each, for_second_walk}
-use Rattle.rules.specs.Walks.{Item, first_item, first_walk, member_assignments, assignments_from, second_item, second_walk, number_after, third_item, third_walk}
+use Rattle.rules.specs.Walks.{Item, item_of, first_item, first_walk, member_assignments, assignments_from, second_item, second_walk, number_after, third_item, third_walk}
+use Rattle.lowering.specs.Hands.{is_written, all_written}
 use Rattle.lowering.specs.Items.{members_of}
 use Rattle.lowering.specs.Left.{after}
 use Rattle.lowering.proofs.Left.{ReadsOn, after_append, after_map, at_after, first_walk_on, assignments_on, second_walk_on, third_walk_on}
@@ -89,11 +93,33 @@ module _ {X Z : Type 0} (f : X → Z) (xs : List X) (i : ℕ) (d y : X) (within 
       let behind = drop-set-lt (i + 1) xs i y (omega arith) in
       at_drop_more (map f) xs i d within ∙ ap (λ zs. f (get_or xs i d) ∷ map f zs) (sym behind)
 
+-- the row that was written is the one that is read
+pub written_read : {X : Type 0} (xs : List X) (i : ℕ) (y z : X) → i < length xs → z ≡ get_or (set xs i y) i z → z ≡ y
+written_read xs i y z h is = is ∙ get_or-set_same xs i y z h
+
 -- Walk 1 goes on with the members that are not written yet.
 pub left_item : {X : Type 0} (rows hs : List X) (i : ℕ) (d : X) → i < length rows → drop i rows ≡ drop i hs →
     drop i hs ≡ get_or rows i d ∷ drop (i + 1) hs
 left_item rows hs i d within same =
     sym same ∙ (drop_more rows i d within ∙ ap (λ zs. get_or rows i d ∷ zs) (drop_more_same rows hs i same))
+
+pub key_written : (k : Option Name) → is_written k ≡ true → k ≡ None
+key_written None h = refl
+key_written (Some name) h = cc
+
+and_left : (a b : Bool) → a && b ≡ true → a ≡ true
+and_left true b h = refl
+and_left false b h = h
+
+and_right : (a b : Bool) → a && b ≡ true → b ≡ true
+and_right true b h = h
+and_right false b h = cc
+
+pub first_written : (hs : List Held) (x : Held) (rest : List Held) → hs ≡ x ∷ rest → all_written hs ≡ true → x.key ≡ None
+first_written hs x rest is all = key_written x.key (and_left (is_written x.key) (all_written rest) (sym (ap all_written is) ∙ all))
+
+pub rest_written : (hs : List Held) (x : Held) (rest : List Held) → hs ≡ x ∷ rest → all_written hs ≡ true → all_written rest ≡ true
+rest_written hs x rest is all = and_right (is_written x.key) (all_written rest) (sym (ap all_written is) ∙ all)
 
 number_cond : (b : Bool) (n : ℕ) → cond b (n + 1) n ≡ n + cond b 1 0
 number_cond true n = refl
@@ -118,3 +144,21 @@ second_members s n marks k (i ∷ is) =
 pub third_members : (marks : List ℕ) (k : ℕ) (is : List Item) → members_of (third_walk marks k is) ≡ members_of is
 third_members marks k [] = refl
 third_members marks k (i ∷ is) = ap (λ xs. i.member ∷ xs) (third_members marks (k + length (third_stems i.member)) is)
+
+abbrev pub is_accessor : Made → Bool
+is_accessor x = accessor (item_of x).member
+
+counted_map : {X Y : Type 0} (f : X → Y) (p : Y → Bool) (xs : List X) → count_by (λ x. p (f x)) xs ≡ count_by p (map f xs)
+counted_map f p [] = refl
+counted_map f p (x ∷ xs) =
+    omega (arith, counted_map f p xs, sum_by-cons (λ y. cond (p (f y)) 1 0) x xs, sum_by-cons (λ y. cond (p y) 1 0) (f x) (map f xs))
+
+-- the rows that walk 1 makes have as many accessors as the members in hand
+pub accessors_walked : (rows : List Made) (marks : List ℕ) (k : ℕ) (ms : List Seen) →
+    map item_of rows ≡ first_walk marks k ms → count_by is_accessor rows ≡ count_by accessor ms
+accessors_walked rows marks k ms walked =
+    let member : Item → Seen = λ i. i.member in
+    let test : Item → Bool = λ i. accessor i.member in
+    counted_map item_of test rows
+    ∙ (counted_map member accessor (map item_of rows)
+    ∙ ap (count_by accessor) (ap (map member) walked ∙ first_members marks k ms))

@@ -196,6 +196,7 @@ fn number_after(number: u16, parts: &Parts) -> u16
 pub(crate) fn make_second(made: &mut Made, reached: &mut Reached, names: &mut Names<'_>)
     requires { number_after (item_of made.old).member reached.old.number ≤ 65535 }
     ensures item { item_of made.new ≡ second_item reached.old.starters reached.old.number names.old 0 (item_of made.old) }
+    ensures held { made.new.held ≡ made.old.held }
     ensures starters { reached.new.starters ≡ starters_after reached.old.starters (item_of made.old).member }
     ensures number { reached.new.number ≡ number_after (item_of made.old).member reached.old.number }
     ensures left { names.new ≡ after (second_stems reached.old.starters (item_of made.old).member) names.old }
@@ -225,6 +226,7 @@ fn third_form(parts: &Parts, form: MadeForm, names: &mut Names<'_>) -> MadeForm
 /// Walk 3 over one member.
 pub(crate) fn make_third(made: &mut Made, names: &mut Names<'_>)
     ensures item { item_of made.new ≡ third_item names.old 0 (item_of made.old) }
+    ensures held { made.new.held ≡ made.old.held }
     ensures left { names.new ≡ after (third_stems (item_of made.old).member) names.old }
 {
     made.form = third_form(made.held.member.parts(), made.form, names);

@@ -110,6 +110,7 @@ pub(crate) fn take_first(
     requires { length (rows_of assignments.old) + 9 ≤ 576 }
     ensures item { item_of result ≡ first_item names.old 0 (seen_held slot.old) }
     ensures held { slot.new ≡ result.held }
+    ensures member { slot.new.member ≡ slot.old.member }
     ensures rows { rows_of assignments.new ≡ rows_of assignments.old ++ member_assignments names.old 0 (seen_held slot.old) }
     ensures left { names.new ≡ after (first_stems (seen_held slot.old)) names.old }
 {

@@ -57,3 +57,8 @@ only_least {r = Err e} (none, _, _) m {free = free} is shown =
     let none-m = none m in
     let is_m = is m in
     absurd (grind arith)
+
+-- the same of what a draw from the layer answers
+pub draws_least : (s t : Reserved Counter) (r : Result ℕ Exhausted) → DrawsLeast s r t →
+    (free : Set) (m : ℕ) → ((k : ℕ) → unreserved s k ≡ free k) → is_least free m ≡ true → (r ≡ Ok m) × ((k : ℕ) → unreserved t k ≡ without free m k)
+draws_least s t r least_of free m is shown = only_least least_of m is shown

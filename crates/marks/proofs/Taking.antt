@@ -17,7 +17,7 @@ once_push (y ∷ ys) x (n, h) e =
     let pushed = among_push ys x y in
     (grind (arith, nat_tests), once_push ys x h (grind (arith, nat_tests)))
 
-takes_push : (s : Set) (ms : List ℕ) (u t : Set) (m : ℕ) → Within u mark → Takes s ms u → Draws u (Ok m) t → Takes s (ms ++ m ∷ []) t
+pub takes_push : (s : Set) (ms : List ℕ) (u t : Set) (m : ℕ) → Within u mark → Takes s ms u → Draws u (Ok m) t → Takes s (ms ++ m ∷ []) t
 takes_push s ms u t m within taken (is_free, left) =
     let at-m = taken.rest m in
     record {
@@ -28,14 +28,14 @@ takes_push s ms u t m within taken (is_free, left) =
     }
 
 -- A refusal comes where all are taken.
-takes_all : (s : Set) (ms : List ℕ) (u t : Set) (e : Exhausted) → Takes s ms u → Draws u (Err e) t → Takes s ms t × (size s ≡ length ms)
+pub takes_all : (s : Set) (ms : List ℕ) (u t : Set) (e : Exhausted) → Takes s ms u → Draws u (Err e) t → Takes s ms t × (size s ≡ length ms)
 takes_all s ms u t e taken (none, none_after, _) =
     let all : size s ≡ length ms = omega (arith, taken.fewer, size_none u none) in
     let rest : (k : ℕ) → t k ≡ except s ms k = λ k. let before = taken.rest k in let was = none k in let now = none_after k in cc in
     (record { once = taken.once; free = taken.free; rest = rest; fewer = omega (arith, size_none t none_after) }, all)
 
 module _ {S : Type 0} (steps : S → Result ℕ Exhausted → S → Type 0) where
-  drawn_push : (ms : List ℕ) (m : ℕ) (s u t : S) → Drawn steps ms s u → steps u (Ok m) t → Drawn steps (ms ++ m ∷ []) s t
+  pub drawn_push : (ms : List ℕ) (m : ℕ) (s u t : S) → Drawn steps ms s u → steps u (Ok m) t → Drawn steps (ms ++ m ∷ []) s t
   drawn_push [] m s u t same step = (t, rw same step, refl)
   drawn_push (k ∷ ms) m s u t (v, first, others) step = (v, first, drawn_push ms m v u t others step)
 

@@ -25,6 +25,7 @@ returns c =
     record {
       item = cc;
       held = refl;
+      member = refl;
       rows = rows_taken took _ _ _ _ text c.take_decorators-decorations.ensures.rows c.take_out-key.ensures.rows;
       left = left_taken took _ c.take_out-key.ensures.left;
     }
