@@ -1,6 +1,7 @@
 -- One member of a walk.
-use Rattle.std.proofs.Common.{◌≡◌, ℕ, suc, ◌+◌, ◌<◌, Bool, true, false, cond, ◌&&◌, List, [], ◌∷◌, ◌++◌, map, length, get_or, take, drop, set, count_by, Some, None, Option, sym, refl, ap, ◌∙◌, append_assoc, add-one, arith}
+use Rattle.std.proofs.Common.{◌≡◌, ℕ, suc, ◌+◌, ◌<◌, Bool, true, false, cond, List, [], ◌∷◌, ◌++◌, map, length, get_or, take, drop, set, count_by, Some, None, Option, sym, refl, ap, ◌∙◌, append_assoc, add-one, arith}
 use Rattle.std.proofs.lemmas.Grind.{drop_more_same}
+use Rattle.std.proofs.lemmas.Bool.{and_parts}
 use Rattle.std.proofs.lemmas.List.{at_drop_more, drop_more, get_or-set_same, take_more_set, drop-set-lt, map_push}
 use Rattle.std.proofs.lemmas.List.Sums.{sum_by-cons}
 use Rattle.sheet.specs.Seen.{Seen}
@@ -107,19 +108,11 @@ pub key_written : (k : Option Name) → is_written k ≡ true → k ≡ None
 key_written None h = refl
 key_written (Some name) h = cc
 
-and_left : (a b : Bool) → a && b ≡ true → a ≡ true
-and_left true b h = refl
-and_left false b h = h
-
-and_right : (a b : Bool) → a && b ≡ true → b ≡ true
-and_right true b h = h
-and_right false b h = cc
-
 pub first_written : (hs : List Held) (x : Held) (rest : List Held) → hs ≡ x ∷ rest → all_written hs ≡ true → x.key ≡ None
-first_written hs x rest is all = key_written x.key (and_left (is_written x.key) (all_written rest) (sym (ap all_written is) ∙ all))
+first_written hs x rest is all = key_written x.key (and_parts (is_written x.key) (all_written rest) (sym (ap all_written is) ∙ all)).0
 
 pub rest_written : (hs : List Held) (x : Held) (rest : List Held) → hs ≡ x ∷ rest → all_written hs ≡ true → all_written rest ≡ true
-rest_written hs x rest is all = and_right (is_written x.key) (all_written rest) (sym (ap all_written is) ∙ all)
+rest_written hs x rest is all = (and_parts (is_written x.key) (all_written rest) (sym (ap all_written is) ∙ all)).1
 
 number_cond : (b : Bool) (n : ℕ) → cond b (n + 1) n ≡ n + cond b 1 0
 number_cond true n = refl

@@ -1,6 +1,6 @@
 -- Marks that are drawn one after another into the places of a table.
-use Rattle.std.proofs.Common.{◌≡◌, ℕ, ◌+◌, ◌<◌, false, List, [], ◌∷◌, ◌++◌, length, take, drop, set, Ok, Err, Result, is_ok, refl, arith}
-use Rattle.std.proofs.lemmas.List.{length_push, take_more_set}
+use Rattle.std.proofs.Common.{◌≡◌, ℕ, ◌+◌, ◌<◌, false, List, [], ◌∷◌, ◌++◌, length, take, drop, set, Ok, Err, Result, is_ok, sym, refl, ap, ◌∙◌, subst, arith}
+use Rattle.std.proofs.lemmas.List.{length_push, take_more_set, drop-set-lt, drop-drop}
 use Rattle.std.proofs.lemmas.Bool.Decides.{nat_tests}
 use Rattle.std.proofs.lemmas.Grind.{common_steps}
 use Rattle.marks.specs.declared.source.Exhausted.{Exhausted}
@@ -27,6 +27,16 @@ takes_push s ms u t m within taken (is_free, left) =
       fewer = omega (arith, taken.fewer, length_push ms m, size_draw u t m within (is_free, left));
     }
 
+-- The marks go into a table: one more of its places is written.
+pub takes_set : (s u t : Set) (xs : List ℕ) (i m : ℕ) → i < length xs → Within u mark → Takes s (take i xs) u → Draws u (Ok m) t →
+    Takes s (take (i + 1) (set xs i m)) t
+takes_set s u t xs i m inside within taken drawn =
+    subst (λ ms. Takes s ms t) (sym (take_more_set xs i m inside)) (takes_push s (take i xs) u t m within taken drawn)
+
+pub rest_set : (xs ys : List ℕ) (i m : ℕ) → drop i xs ≡ drop i ys → drop (i + 1) (set xs i m) ≡ drop (i + 1) ys
+rest_set xs ys i m same =
+    drop-set-lt (i + 1) xs i m (omega arith) ∙ (sym (drop-drop 1 i xs) ∙ (ap (drop 1) same ∙ drop-drop 1 i ys))
+
 -- A refusal comes where all are taken.
 pub takes_all : (s : Set) (ms : List ℕ) (u t : Set) (e : Exhausted) → Takes s ms u → Draws u (Err e) t → Takes s ms t × (size s ≡ length ms)
 takes_all s ms u t e taken (none, none_after, _) =
@@ -38,6 +48,12 @@ module _ {S : Type 0} (steps : S → Result ℕ Exhausted → S → Type 0) wher
   pub drawn_push : (ms : List ℕ) (m : ℕ) (s u t : S) → Drawn steps ms s u → steps u (Ok m) t → Drawn steps (ms ++ m ∷ []) s t
   drawn_push [] m s u t same step = (t, rw same step, refl)
   drawn_push (k ∷ ms) m s u t (v, first, others) step = (v, first, drawn_push ms m v u t others step)
+
+  -- the same for the chain of the draws
+  pub drawn_set : (xs : List ℕ) (i m : ℕ) (s u t : S) → i < length xs → Drawn steps (take i xs) s u → steps u (Ok m) t →
+      Drawn steps (take (i + 1) (set xs i m)) s t
+  drawn_set xs i m s u t inside before step =
+      subst (λ ms. Drawn steps ms s t) (sym (take_more_set xs i m inside)) (drawn_push (take i xs) m s u t before step)
 
 -- The first i places of xs hold what was drawn from s, in the order of the draws, and u is left. The other places are as in ys.
 pub record DrawnInto {S : Type 0} (free : S → Set) (steps : S → Result ℕ Exhausted → S → Type 0)
@@ -51,13 +67,12 @@ module _ {S : Type 0} {free : S → Set} {steps : S → Result ℕ Exhausted →
   -- one draw more, into the next place
   pub one_more : {s u t : S} {ys xs : List ℕ} {i m : ℕ} {r : Result ℕ Exhausted} → i < length xs →
       DrawnInto free steps s ys i xs u → r ≡ Ok m → steps u r t → DrawnInto free steps s ys (i + 1) (set xs i m) t
-  one_more {s = s} {u = u} {t = t} {xs = xs} {i = i} {m = m} inside before is step =
+  one_more {s = s} {u = u} {t = t} {ys = ys} {xs = xs} {i = i} {m = m} inside before is step =
       let drawn = rw is at step in
-      let more = take_more_set xs i m inside in
       record {
-        takes = rw more (takes_push (free s) (take i xs) (free u) (free t) m (marks u) before.takes (draws u (Ok m) t drawn));
-        rest = grind (arith, common_steps);
-        drawn = rw more (drawn_push steps (take i xs) m s u t before.drawn drawn);
+        takes = takes_set (free s) (free u) (free t) xs i m inside (marks u) before.takes (draws u (Ok m) t drawn);
+        rest = rest_set xs ys i m before.rest;
+        drawn = drawn_set steps xs i m s u t inside before.drawn drawn;
       }
 
   -- A draw is refused where all are taken, and takes nothing.

@@ -49,29 +49,23 @@ impl<'s> Entry<'s> {
         let kind = self.parts.key.kind;
         let text = Text::new(self.sheet, self.parts.key.text);
         match kind {
-            KeyKind::Identifier if self.parts.flags.is_private => writeln!(f, " #{text}"),
-            KeyKind::Identifier => text.spaced().fmt(f),
-            KeyKind::Literal => {
-                text.spaced().fmt(f)?;
-                writeln!(f, "  key: {kind}")
-            }
-            KeyKind::ComputedIdentifier | KeyKind::Computed => {
-                write!(f, " [{text}]\n  key: ")?;
-                kind.fmt(f)?;
-                f.write_str("\n")
-            }
+            KeyKind::Identifier if self.parts.flags.is_private => return writeln!(f, " #{text}"),
+            KeyKind::Identifier => return text.spaced().fmt(f),
+            KeyKind::Literal => text.spaced().fmt(f)?,
+            KeyKind::ComputedIdentifier | KeyKind::Computed => writeln!(f, " [{text}]")?,
         }
+        writeln!(f, "  key: {kind}")
     }
 
-    /// The line of a decorator or a parameter: the word for it, of which kind it is, and its text.
+    /// The line of a decorator or a parameter: what it begins with, of which kind the item is, and its text.
     fn write_item<W: fmt::Write>(
         &self,
-        word: &str,
+        beginning: &str,
         kind: impl fmt::Display + Drop,
         text: Place,
         f: &mut fmt::Formatter<W>,
     ) -> fmt::Result {
-        f.write_str(word)?;
+        f.write_str(beginning)?;
         kind.fmt(f)?;
         self.spaced(text).fmt(f)
     }

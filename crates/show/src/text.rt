@@ -1,6 +1,7 @@
 //! Texts of a sheet on a line of a terminal.
 use sheet::{Place, Sheet};
 use std::fmt;
+use std::fmt::Display;
 
 /// A text of a sheet, shown on one line and without a control character.
 ///
@@ -62,9 +63,10 @@ impl fmt::Display for Text<'_> {
 impl fmt::Display for Spaced<'_> {
     fn fmt<W: fmt::Write>(&self, f: &mut fmt::Formatter<W>) -> fmt::Result {
         let text = self.0;
-        if text.bytes.is_empty() {
-            return f.write_str("\n");
+        if !text.bytes.is_empty() {
+            f.write_str(" ")?;
+            text.fmt(f)?;
         }
-        writeln!(f, " {text}")
+        f.write_str("\n")
     }
 }
